@@ -1,0 +1,4 @@
+pub mod Members
+pub mod Kept
+pub mod Drafts
+pub mod Planned

@@ -1,0 +1,4 @@
+pub mod Orders
+pub mod Numbers
+pub mod Answers
+pub mod Tallies

@@ -1,0 +1,2 @@
+// The vocabulary of a transit node.
+pub mod refusal;
