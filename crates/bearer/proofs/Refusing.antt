@@ -5,14 +5,15 @@ use Prim.Native.Nat.{ℕ, _<_}
 use native.Mathlib.Omega.{arith}
 use lib.Dec.{ltb}
 use Rattle.std.proofs.shelf.Ways.{tells}
-use Rattle.bearer.specs.Kit.{HostKit, seizes}
+use Rattle.bearer.specs.Kit.{HostKit}
 use Rattle.bearer.specs.Laws.{HostLaws}
 use Rattle.bearer.specs.Closed.{Refuses-always}
 
 module _ {S : Type 0} (k : HostKit S) (laws : HostLaws k) where
   -- once cleared, the first place can be seized exactly if the size is not 0
-  first-place : (s : S) → seizes k (k .cleared s) 1 ≡ ltb 0 (k .size s)
-  first-place s = rw (laws .clear-makes-every-phase-none s 1, laws .clear-makes-spare-the-size s)
+  first-place : (s : S) → k .seizes (k .cleared s) 1 ≡ ltb 0 (k .size s)
+  first-place s =
+      laws .seize-succeeds-exactly-if-none-and-spare (k .cleared s) 1 ∙ rw (laws .clear-makes-every-phase-none s 1, laws .clear-makes-spare-the-size s)
 
   pub refusing-has-size-zero : Refuses-always k → (s : S) → k .size s ≡ 0
   refusing-has-size-zero refuses s =

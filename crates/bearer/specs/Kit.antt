@@ -2,9 +2,7 @@
 -- is-none, is-up, raised: of a phase
 -- is-place: the places that can have a bearer
 -- HostKit: the functions of a host
--- seizes: whether a seizure succeeds
--- tried: the state after a seizure that may be refused
-use mathlib.Core.Bool.{Bool, true, false, cond, _&&_}
+use mathlib.Core.Bool.{Bool, true, false, _&&_}
 use Prim.Native.Nat.{ℕ}
 use lib.Dec.{ltb, leb}
 use Rattle.bearer.specs.declared.phase.Phase.{Phase}
@@ -33,20 +31,13 @@ abbrev pub is-place : ℕ → Bool
 is-place p = ltb 0 p && leb p 4096
 
 -- a host, over its states S: the phase of each place, how many bearers are spare, its size,
--- and the state after each of its calls
+-- whether a seizure succeeds, and the state after each of its calls
 pub record HostKit (S : Type 0) : Type 0 where
   pub phase : S → ℕ → Phase
   pub spare : S → ℕ
   pub size : S → ℕ
+  pub seizes : S → ℕ → Bool
   pub cleared : S → S
   pub seized : S → ℕ → S
   pub settled : S → ℕ → S
   pub given : S → ℕ → S
-
--- a seizure succeeds exactly at a place from 1 to 4096 whose phase is none, while a bearer is spare
-abbrev pub seizes : {S : Type 0} → HostKit S → S → ℕ → Bool
-seizes k s p = is-place p && (is-none (k .phase s p) && ltb 0 (k .spare s))
-
--- a seizure that is refused alters nothing
-abbrev pub tried : {S : Type 0} → HostKit S → S → ℕ → S
-tried k s p = cond (seizes k s p) (k .seized s p) s

@@ -4,10 +4,10 @@
 -- fresh: the state of a new host
 -- used: how many places have a bearer
 -- per-call: what its calls do
-use mathlib.Core.Bool.{cond}
+use mathlib.Core.Bool.{Bool, cond, _&&_}
 use mathlib.Core.List.{List, [], _∷_}
 use Prim.Native.Nat.{ℕ, _+_, _-_, min}
-use lib.Dec.{eqb}
+use lib.Dec.{ltb, eqb}
 use lib.ListN.{getD}
 use Rattle.bearer.specs.Kit.{HostKit, is-none, is-place, raised}
 use Rattle.bearer.specs.declared.phase.Phase.{Phase}
@@ -48,9 +48,13 @@ put f p x q = cond (eqb q p) x (f q)
 abbrev pub clear-all : Meaning → Meaning
 clear-all s = record { phases = λ _. Nothing; spare = s .size; size = s .size }
 
--- a bearer forms at p
+-- a seizure succeeds at a place from 1 to 4096 whose phase is none, while a bearer is spare
+abbrev pub may-seize : Meaning → ℕ → Bool
+may-seize s p = is-place p && (is-none (phase-of s p) && ltb 0 (s .spare))
+
+-- a bearer forms at p, unless the seizure is refused
 abbrev pub seize-one : Meaning → ℕ → Meaning
-seize-one s p = record { phases = put (s .phases) p Forming; spare = s .spare - 1; size = s .size }
+seize-one s p = cond (may-seize s p) (record { phases = put (s .phases) p Forming; spare = s .spare - 1; size = s .size }) s
 
 -- the bearer at p, if forming, is up
 abbrev pub settle-one : Meaning → ℕ → Meaning
@@ -61,4 +65,4 @@ abbrev pub give-one : Meaning → ℕ → Meaning
 give-one s p = record { phases = put (s .phases) p Nothing; spare = cond (is-none (phase-of s p)) (s .spare) (s .spare + 1); size = s .size }
 
 abbrev pub per-call : HostKit Meaning
-per-call = record { phase = phase-of; spare = λ s. s .spare; size = λ s. s .size; cleared = clear-all; seized = seize-one; settled = settle-one; given = give-one }
+per-call = record { phase = phase-of; spare = λ s. s .spare; size = λ s. s .size; seizes = may-seize; cleared = clear-all; seized = seize-one; settled = settle-one; given = give-one }

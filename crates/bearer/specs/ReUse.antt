@@ -22,14 +22,15 @@ keeping m marks = record { bearers = m; kept = at-place marks false }
 abbrev pub fresh-keeping : ℕ → Keeping
 fresh-keeping n = record { bearers = fresh n; kept = λ _. false }
 
--- clear keeps none, a seizure uses up the one of its place, and a give keeps a bearer that was up
+-- clear keeps none, a seizure that succeeds uses up the one of its place, and a give keeps a bearer that was up
 abbrev pub re-use : HostKit Keeping
 re-use = record {
   phase = λ s p. per-call .phase (s .bearers) p;
   spare = λ s. per-call .spare (s .bearers);
   size = λ s. per-call .size (s .bearers);
+  seizes = λ s p. per-call .seizes (s .bearers) p;
   cleared = λ s. record { bearers = per-call .cleared (s .bearers); kept = λ _. false };
-  seized = λ s p. record { bearers = per-call .seized (s .bearers) p; kept = put (s .kept) p false };
+  seized = λ s p. record { bearers = per-call .seized (s .bearers) p; kept = cond (per-call .seizes (s .bearers) p) (put (s .kept) p false) (s .kept) };
   settled = λ s p. record { bearers = per-call .settled (s .bearers) p; kept = s .kept };
   given = λ s p. record { bearers = per-call .given (s .bearers) p; kept = cond (is-up (per-call .phase (s .bearers) p)) (put (s .kept) p true) (s .kept) };
 }

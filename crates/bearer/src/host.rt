@@ -2,7 +2,7 @@
 ghost use mathlib.Core.Path.{_≡_};
 ghost use lib.Dec.{ltb};
 ghost use Prim.Native.Nat.{ℕ};
-ghost use Rattle.bearer.specs.Kit.{HostKit, seizes, tried};
+ghost use Rattle.bearer.specs.Kit.{HostKit};
 ghost use Rattle.bearer.specs.Laws.{HostLaws};
 ghost use Rattle.bearer.specs.Phases.{Cleared, Seized, Settled, Given};
 use crate::phase::Phase;
@@ -26,8 +26,8 @@ pub trait BearerHost {
 
     // Seizes a bearer for the place, or answers false.
     fn seize(&mut self, place: u16) -> bool
-        ensures value { λ r. ⌜ r ≡ seizes kit (state (now (self .entry))) place ⌝ }
-        ensures after { λ r. ⌜ state (now (self .exit)) ≡ tried kit (state (now (self .entry))) place ⌝ }
+        ensures value { λ r. ⌜ r ≡ kit .seizes (state (now (self .entry))) place ⌝ }
+        ensures after { λ r. ⌜ state (now (self .exit)) ≡ kit .seized (state (now (self .entry))) place ⌝ }
         ensures phases { λ r. ⌜ Seized kit (state (now (self .entry))) (state (now (self .exit))) place r ⌝ };
 
     // The place's bearer, if it is forming, is up.

@@ -2,3 +2,4 @@ pub mod Orders
 pub mod Numbers
 pub mod Answers
 pub mod Tallies
+pub mod Texts

@@ -1,10 +1,10 @@
 -- What a line makes of a script under way.
 -- Standing, standing, fresh: how a script stands
 -- counted, obeyed, faulted: after an answer, a command and an error
--- next-line, after: after a line
+-- next-line, after, after-all: after a line, and after some
 -- tally-of: what the last line tells
 use mathlib.Core.Bool.{Bool, true, false, cond}
-use mathlib.Core.List.{List, []}
+use mathlib.Core.List.{List, [], _∷_}
 use Prim.Native.Nat.{ℕ, _+_, min}
 use lib.ListN.{length}
 use Rattle.plan.specs.Members.{Member, places-of}
@@ -14,8 +14,8 @@ use Rattle.script.specs.Numbers.{largest}
 use Rattle.script.specs.declared.answer.Answer.{Answer}
 use Rattle.script.specs.declared.answer.Answer.the-variants.{Drafted, Hunt, Refused}
 use Rattle.script.specs.declared.command.Command.{Command}
-use Rattle.script.specs.declared.command.Line.{Line}
-use Rattle.script.specs.declared.command.Line.the-variants.{Passed, Asked, Faulty}
+use Rattle.script.specs.declared.line.Line.{Line}
+use Rattle.script.specs.declared.line.Line.the-variants.{Passed, Asked, Faulty}
 use Rattle.script.specs.declared.runner.Runner.{Runner}
 use Rattle.script.specs.declared.tally.Tally.{Tally}
 
@@ -71,7 +71,12 @@ next-line s = record { plan = s .plan; lines = more (s .lines); answered = s .an
 abbrev pub after : Line → Standing → Standing
 after Passed s = next-line s
 after (Asked c) s = obeyed c (next-line s)
-after Faulty s = faulted (next-line s)
+after (Faulty fault) s = faulted (next-line s)
+
+-- after some lines, one after another
+abbrev pub after-all : List Line → Standing → Standing
+after-all [] s = s
+after-all (l ∷ ls) s = after-all ls (after l s)
 
 -- the associations and codes drafted, with the counts
 abbrev pub tally-of : Standing → Tally

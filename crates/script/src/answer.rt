@@ -1,4 +1,8 @@
 // What a command is answered.
+ghost use Rattle.std.specs.Written.{Prints};
+ghost use Rattle.std.specs.declared.option.Option.the-variants.{Some};
+ghost use Rattle.script.specs.Orders.{named};
+ghost use Rattle.script.specs.Texts.{answer-text, codes-text};
 use crate::order::NamedOrder;
 use crate::order::Order;
 use hunt::order::HuntOrder;
@@ -25,6 +29,8 @@ pub enum Answer {
 }
 
 pub impl fmt::Display for Answer as AnswerDisplay {
+    ghost shown = { λ x. Some (answer-text x) };
+
     fn fmt<W: fmt::Write>(&self, f: &mut fmt::Formatter<W>) -> fmt::Result {
         match *self {
             Answer::Drafted {
@@ -55,7 +61,9 @@ fn write_codes<W: fmt::Write>(
     order: Order,
     size: u16,
     side: Side,
-) -> fmt::Result {
+) -> fmt::Result
+    ensures { λ r. ⌜ Prints took (now (f .entry)) r (codes-text (named order size side) 0 size) (now (f .exit)) ⌝ }
+{
     for position in 0..size {
         if let Some(code) = order.code_at(size, side, position) {
             write!(f, " {code}")?;

@@ -9,11 +9,3 @@ pub enum Command {
     // Show the codes of an association in the order of a hunt.
     Hunt { order: Order, association: u16 },
 }
-
-// What a line of a script is: passed over, as a comment is, a command, or in error.
-#[derive(Clone, Copy)]
-pub enum Line {
-    Passed,
-    Asked(Command),
-    Faulty,
-}

@@ -1,4 +1,7 @@
 // Why a line of a script is in error.
+ghost use mathlib.Core.Path.{_≡_};
+ghost use Rattle.std.specs.declared.option.Option.the-variants.{Some};
+ghost use Rattle.script.specs.Texts.{fault-text, part-text, wanted-text};
 use std::fmt;
 
 #[derive(Clone, Copy)]
@@ -23,6 +26,8 @@ pub enum Part {
 }
 
 pub impl fmt::Display for Fault<'_> as FaultDisplay {
+    ghost shown = { λ x. Some (fault-text x) };
+
     fn fmt<W: fmt::Write>(&self, f: &mut fmt::Formatter<W>) -> fmt::Result {
         match *self {
             Fault::NotText => write!(f, "the line is not text in UTF-8"),
@@ -37,26 +42,35 @@ pub impl fmt::Display for Fault<'_> as FaultDisplay {
     }
 }
 
-impl Part {
-    // What the word should be.
-    fn wanted(self) -> &'static str {
-        match self {
-            Part::Size | Part::Association => "a decimal number",
-            Part::Side => "even or odd",
-            Part::Order => "straight or own-half-first",
-        }
+pub impl fmt::Display for Part as PartDisplay {
+    ghost shown = { λ x. Some (part-text x) };
+
+    fn fmt<W: fmt::Write>(&self, f: &mut fmt::Formatter<W>) -> fmt::Result {
+        f.write_str(self.name())
     }
 }
 
-pub impl fmt::Display for Part as PartDisplay {
-    fn fmt<W: fmt::Write>(&self, f: &mut fmt::Formatter<W>) -> fmt::Result {
-        f.write_str(
-            match self {
-                Part::Size => "size",
-                Part::Side => "side",
-                Part::Order => "order",
-                Part::Association => "association",
-            },
-        )
+impl Part {
+    fn name(self) -> &'static str
+        ensures { λ r. ⌜ now r ≡ part-text self ⌝ }
+    {
+        match self {
+            Part::Size => "size",
+            Part::Side => "side",
+            Part::Order => "order",
+            Part::Association => "association",
+        }
+    }
+
+    // What the word should be.
+    fn wanted(self) -> &'static str
+        ensures { λ r. ⌜ now r ≡ wanted-text self ⌝ }
+    {
+        match self {
+            Part::Size => "a decimal number",
+            Part::Side => "even or odd",
+            Part::Order => "straight or own-half-first",
+            Part::Association => "a decimal number",
+        }
     }
 }

@@ -3,6 +3,7 @@ pub mod answer;
 pub mod command;
 pub mod exchange;
 pub mod fault;
+pub mod line;
 pub mod order;
 mod read;
 pub mod runner;

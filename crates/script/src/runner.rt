@@ -1,14 +1,19 @@
 // Runs a script, line by line.
 ghost use mathlib.Core.Path.{_≡_};
+ghost use mathlib.Core.List.{List, _++_};
+ghost use Rattle.script.specs.declared.line.Line.{Line};
+ghost use Rattle.std.specs.Of.String.{string-bytes};
 ghost use Rattle.std.specs.Vec.{made};
+ghost use Rattle.script.specs.Answers.{answer-of};
+ghost use Rattle.script.specs.Texts.{answer-line, fault-line, line-text, Transcribed};
 ghost use Rattle.script.specs.Tallies.{standing, fresh, counted, obeyed, faulted, after, tally-of};
 use crate::answer::Answer;
 use crate::answer::AnswerDisplay;
 use crate::command::Command;
-use crate::command::Line;
 use crate::exchange::Exchange;
 use crate::fault::Fault;
 use crate::fault::FaultDisplay;
+use crate::line::Line;
 use crate::read;
 use crate::tally::Tally;
 use crate::tally::TallyDisplay;
@@ -34,7 +39,9 @@ pub struct Ran {
 }
 
 // Runs a whole script, from text to text.
-pub fn run(heap: Global, script: &str) -> Result<Ran, fmt::Error> {
+pub fn run(heap: Global, script: &str) -> Result<Ran, fmt::Error>
+    ensures { λ r. ⌜ made r (λ x. (ls : List Line) × Transcribed ls (string-bytes (x .text)) (x .clean)) ⌝ }
+{
     let mut text = String::new(heap);
     let mut runner = Runner::new();
     for line in script.lines() {
@@ -63,8 +70,9 @@ impl Runner {
     }
 
     // Carries out the next line, writes what it is answered, and tells what it was.
-    pub fn line(&mut self, line: &[u8], out: &mut String) -> Result<Line, fmt::Error>
-        ensures { λ r. ⌜ made r (λ l. standing (now (self .exit)) ≡ after l (standing (now (self .entry)))) ⌝ }
+    pub fn line<'a>(&mut self, line: &'a [u8], out: &mut String) -> Result<Line<'a>, fmt::Error>
+        ensures stands { λ r. ⌜ made r (λ l. standing (now (self .exit)) ≡ after l (standing (now (self .entry)))) ⌝ }
+        ensures writes { λ r. ⌜ made r (λ l. string-bytes (now (out .exit)) ≡ string-bytes (now (out .entry)) ++ line-text l (standing (now (self .entry)))) ⌝ }
     {
         self.lines = self.lines.saturating_add(1);
         match read::line(line) {
@@ -75,13 +83,14 @@ impl Runner {
             }
             Err(fault) => {
                 self.fault(fault, out)?;
-                Ok(Line::Faulty)
+                Ok(Line::Faulty(fault))
             }
         }
     }
 
     fn command(&mut self, command: Command, out: &mut String) -> fmt::Result
-        ensures { λ _. ⌜ standing (now (self .exit)) ≡ obeyed command (standing (now (self .entry))) ⌝ }
+        ensures stands { λ _. ⌜ standing (now (self .exit)) ≡ obeyed command (standing (now (self .entry))) ⌝ }
+        ensures writes { λ r. ⌜ made r (λ _. string-bytes (now (out .exit)) ≡ string-bytes (now (out .entry)) ++ answer-line (answer-of (standing (now (self .entry)) .plan) command)) ⌝ }
     {
         let answer = self.exchange.obey(command);
         self.count(answer);
@@ -89,7 +98,8 @@ impl Runner {
     }
 
     fn fault(&mut self, fault: Fault, out: &mut String) -> fmt::Result
-        ensures { λ _. ⌜ standing (now (self .exit)) ≡ faulted (standing (now (self .entry))) ⌝ }
+        ensures stands { λ _. ⌜ standing (now (self .exit)) ≡ faulted (standing (now (self .entry))) ⌝ }
+        ensures writes { λ r. ⌜ made r (λ _. string-bytes (now (out .exit)) ≡ string-bytes (now (out .entry)) ++ fault-line (now (self .entry) .lines) (fault .entry)) ⌝ }
     {
         self.errors = self.errors.saturating_add(1);
         let line = self.lines;

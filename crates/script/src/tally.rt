@@ -1,4 +1,6 @@
 // What a script came to, for its last line.
+ghost use Rattle.std.specs.declared.option.Option.the-variants.{Some};
+ghost use Rattle.script.specs.Texts.{tally-text};
 use std::fmt;
 
 #[derive(Clone, Copy)]
@@ -11,6 +13,8 @@ pub struct Tally {
 }
 
 pub impl fmt::Display for Tally as TallyDisplay {
+    ghost shown = { λ t. Some (tally-text t) };
+
     fn fmt<W: fmt::Write>(&self, f: &mut fmt::Formatter<W>) -> fmt::Result {
         let Tally {
             associations,
