@@ -1,19 +1,15 @@
 -- Lists with an entry for each place.
-use mathlib.Core.Path.{_≡_, refl, sym, ap, fun-ext, _∙_}
-use mathlib.Core.Bool.{Bool, true, false, cond}
+use mathlib.Core.Path.{_≡_, refl, fun-ext}
+use mathlib.Core.Bool.{cond}
 use mathlib.Core.List.{List, [], _∷_}
-use mathlib.Core.Logic.{_≢_}
-use Prim.Native.Nat.{ℕ, zero, suc, _+_, _-_, _<_, _≤_}
+use Prim.Native.Nat.{ℕ, zero, suc, _+_, _-_, _<_}
 use native.Mathlib.Omega.{arith}
-use lib.Dec.{eqb}
 use lib.ListN.{length, getD, set, replicate}
-use lib.Seq.{getD-set-same, getD-set-other}
-use borrow.Author.Needs.{needs}
 use Rattle.std.proofs.shelf.Ways.{tells}
 use Rattle.bearer.specs.Kit.{is-none}
 use Rattle.bearer.specs.PerCall.{used, at-place, means, phase-of}
 use Rattle.bearer.specs.declared.phase.Phase.{Phase}
-use Rattle.bearer.specs.declared.phase.Phase.the-variants.{Nothing, Forming, Up}
+use Rattle.bearer.specs.declared.phase.Phase.the-variants.{Nothing}
 
 abbrev pub weight : Phase → ℕ
 weight x = cond (is-none x) 0 1

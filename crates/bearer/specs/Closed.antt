@@ -10,6 +10,6 @@ use Rattle.bearer.specs.Kit.{HostKit}
 abbrev pub Refuses-always : {S : Type 0} → HostKit S → Type 0
 Refuses-always {S} k = (s : S) (p : ℕ) → k .seizes s p ≡ false
 
--- a host that always refuses has size 0
+-- a host that refuses every seizure has no bearers
 abbrev pub Refusing-has-size-zero : {S : Type 0} → HostKit S → Type 0
 Refusing-has-size-zero {S} k = Refuses-always k → (s : S) → k .size s ≡ 0

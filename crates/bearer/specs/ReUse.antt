@@ -1,4 +1,4 @@
--- The re-use host: a per-call host that keeps a bearer that was up when it was given back.
+-- The re-use host: a per-call host that holds on to a bearer which is given back while it is up.
 -- Keeping: its states
 -- keeping: the state that a per-call state and an array of marks stand for
 -- fresh-keeping: the state of a new host

@@ -1,6 +1,5 @@
 // Hosts that have no bearer to give.
 ghost use mathlib.Core.Path.{_≡_};
-ghost use Prim.Native.Nat.{ℕ};
 ghost use lib.Dec.{ltb};
 ghost use mathlib.Core.Bool.{not};
 ghost use Rattle.bearer.specs.Closed.{Refusing-has-size-zero};

@@ -1,7 +1,6 @@
 // What a node asks of a bearer host.
 ghost use mathlib.Core.Path.{_≡_};
 ghost use lib.Dec.{ltb};
-ghost use Prim.Native.Nat.{ℕ};
 ghost use Rattle.bearer.specs.Kit.{HostKit};
 ghost use Rattle.bearer.specs.Laws.{HostLaws};
 ghost use Rattle.bearer.specs.Phases.{Cleared, Seized, Settled, Given};

@@ -1,7 +1,7 @@
-// The re-use host: a bearer that was up when it was given back is kept for its place.
+// The re-use host: a bearer which is given back while it is up is kept for its place.
 ghost use mathlib.Core.Path.{_≡_};
 ghost use mathlib.Core.Bool.{false};
-ghost use Prim.Native.Nat.{ℕ, _-_};
+ghost use Prim.Native.Nat.{_-_};
 ghost use lib.Dec.{ltb};
 ghost use lib.ListN.{length};
 ghost use Rattle.bearer.specs.PerCall.{means, at-place, used};

@@ -1,9 +1,9 @@
 -- The two orders are lawful.
-use mathlib.Core.Path.{_≡_, refl}
-use mathlib.Core.Bool.{Bool, true, false, cond}
-use Prim.Native.Nat.{ℕ, _+_, _-_, _*_, _/_, _%_, _<_}
+use mathlib.Core.Path.{refl}
+use mathlib.Core.Bool.{cond}
+use Prim.Native.Nat.{_-_, _/_, _%_, _<_}
 use native.Mathlib.Omega.{arith}
-use lib.Dec.{ltb, eqb}
+use lib.Dec.{eqb}
 use Rattle.std.proofs.shelf.Ways.{tells}
 use Rattle.hunt.specs.declared.side.Side.the-variants.{Even, Odd}
 use Rattle.hunt.specs.Orders.{Lawful, Stands, straight, own-half-first}

@@ -1,6 +1,6 @@
 // The hunt over a list of marks.
 ghost use mathlib.Core.Path.{_≡_};
-ghost use Prim.Native.Nat.{ℕ, _<_};
+ghost use Prim.Native.Nat.{_<_};
 ghost use Rattle.hunt.specs.First.{hunted, marked, Found, None-passes};
 ghost use Rattle.std.specs.declared.option.Option.the-variants.{None};
 use crate::order::HuntOrder;

@@ -1,5 +1,4 @@
 // Own half first: up the codes that the node controls, then down the others.
-ghost use mathlib.Core.Path.{_≡_};
 ghost use Rattle.hunt.specs.Orders.{own-half-first};
 use crate::order::HuntOrder;
 use crate::side::Side;

@@ -1,5 +1,4 @@
 // Straight: up where the node controls the even codes, down where it controls the odd ones.
-ghost use mathlib.Core.Path.{_≡_};
 ghost use Rattle.hunt.specs.Orders.{straight};
 use crate::order::HuntOrder;
 use crate::side::Side;

@@ -1,12 +1,11 @@
 -- One association more at the end of a plan.
-use mathlib.Core.Path.{_≡_, refl, sym, ap, _∙_}
-use mathlib.Core.Bool.{Bool, true, false, cond, _&&_}
+use mathlib.Core.Path.{_≡_, sym, ap, _∙_}
+use mathlib.Core.Bool.{true}
 use mathlib.Core.List.{List, [], _∷_, _++_, append-assoc, append-nil, map-append}
-use Prim.Native.Nat.{ℕ, zero, suc, _+_, _-_, _<_, _≤_}
-use native.Mathlib.Nat.{add-zero, add-assoc, add-comm}
+use Prim.Native.Nat.{ℕ, _+_, _-_, _<_, _≤_}
+use native.Mathlib.Nat.{add-zero, add-assoc}
 use native.Mathlib.Omega.{arith}
-use lib.Dec.{leb}
-use lib.ListN.{length, getD, set, take, replicate}
+use lib.ListN.{length, set, take, replicate}
 use Rattle.std.proofs.shelf.Lists.{take-more-set, length-push}
 use Rattle.std.proofs.shelf.Ways.{tells}
 use Rattle.hunt.specs.declared.side.Side.{Side}

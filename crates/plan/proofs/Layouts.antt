@@ -1,16 +1,14 @@
 -- Associations laid out one after another.
-use mathlib.Core.Path.{_≡_, refl, sym, ap, _∙_}
-use mathlib.Core.Bool.{Bool, true, false, cond, _&&_}
-use mathlib.Core.List.{List, [], _∷_, _++_}
+use mathlib.Core.Path.{_≡_, sym, ap, _∙_}
+use mathlib.Core.Bool.{true}
+use mathlib.Core.List.{List, [], _∷_}
 use Prim.Native.Nat.{ℕ, zero, suc, _+_, _-_, _<_, _≤_}
 use native.Mathlib.Nat.{add-zero, add-assoc}
 use native.Mathlib.Omega.{arith}
-use lib.Dec.{leb}
 use lib.ListN.{length, getD, take}
 use lib.Seq.{getD-take}
 use Rattle.std.proofs.shelf.Ways.{tells}
-use Rattle.std.specs.declared.option.Option.{Option}
-use Rattle.std.specs.declared.option.Option.the-variants.{Some, None}
+use Rattle.std.specs.declared.option.Option.the-variants.{Some}
 use Rattle.hunt.specs.declared.side.Side.the-variants.{Even}
 use Rattle.plan.specs.declared.association.Association.{Association}
 use Rattle.plan.specs.Members.{Member, nobody, places-of, first-of, is-association, association-of}
@@ -35,37 +33,6 @@ sum-within (m ∷ ms) (suc k) h = let rest = sum-within ms k (omega arith) in om
 
 numbered : (ms : List Member) (a : ℕ) → 1 ≤ a → a ≤ length ms → is-association ms a ≡ true
 numbered ms a low high = grind (arith, tells)
-
--- what the answer of an association tells
-pub record Is-association (ms : List Member) (a : ℕ) (x : Association) : Type 0 where
-  pub low : 1 ≤ a
-  pub high : a ≤ length ms
-  pub first : x .first ≡ first-of ms a
-  pub size : x .size ≡ getD ms (a - 1) nobody .size
-  pub side : x .side ≡ getD ms (a - 1) nobody .side
-
-one-of : (b : Bool) (x y : Association) → Some x ≡ cond b (Some y) None → (b ≡ true) × (x ≡ y)
-one-of true x y e = (refl, cc)
-one-of false x y e = absurd (let z : _≡_ {A = ℕ} 0 1 = cc in omega arith)
-
-pub association-is : (ms : List Member) (a : ℕ) (x : Association) → Some x ≡ association-of ms a → Is-association ms a x
-association-is ms a x e =
-    let o = one-of (is-association ms a) x _ e in
-    let t = o .0 in
-    record {
-      low = grind (arith, tells);
-      high = grind (arith, tells);
-      first = ap (λ (y : Association). y .first) (o .1);
-      size = ap (λ (y : Association). y .size) (o .1);
-      side = ap (λ (y : Association). y .side) (o .1);
-    }
-
-none-of : (b : Bool) (y : Association) → None ≡ cond b (Some y) None → b ≡ false
-none-of true y e = absurd (let z : _≡_ {A = ℕ} 0 1 = cc in omega arith)
-none-of false y e = refl
-
-pub association-missing : (ms : List Member) (a : ℕ) → None ≡ association-of ms a → is-association ms a ≡ false
-association-missing ms a e = none-of (is-association ms a) _ e
 
 -- an association as it stands in a plan
 pub first-at : (q : Plan) (a : ℕ) → 1 ≤ a → a ≤ q .count → getD (q .associations) (a - 1) vacant ≡ record { first = first-of (planned q) a; size = getD (planned q) (a - 1) nobody .size; side = getD (planned q) (a - 1) nobody .side }

@@ -1,7 +1,7 @@
 -- Places and codes: the two maps are inverse.
-use mathlib.Core.Path.{_≡_, refl, sym, ap, subst, _∙_}
-use mathlib.Core.Bool.{Bool, true, false, cond, _&&_}
-use mathlib.Core.List.{List, [], _∷_, _++_}
+use mathlib.Core.Path.{_≡_, refl, sym, ap, _∙_}
+use mathlib.Core.Bool.{Bool, true, false, _&&_}
+use mathlib.Core.List.{List, [], _∷_}
 use mathlib.Core.Logic.{_⊎_, inl, inr, ⊎-elim}
 use Prim.Native.Nat.{ℕ, zero, suc, _+_, _-_, _<_, _≤_}
 use native.Mathlib.Nat.{zero-add, eq-zero-or-pos}
@@ -9,14 +9,12 @@ use native.Mathlib.Omega.{arith}
 use lib.Dec.{leb, ltb}
 use lib.ListN.{length, getD, take, replicate, length-replicate, getD-replicate}
 use Rattle.std.proofs.shelf.Lists.{getD-append-left, getD-append-right}
-use Rattle.std.proofs.shelf.Tests.{cases-lt}
+use Rattle.std.proofs.shelf.Tests.{cases-lt, leb-true, ltb-true}
 use Rattle.std.proofs.shelf.Ways.{tells}
-use Rattle.std.specs.declared.option.Option.{Option}
 use Rattle.std.specs.declared.option.Option.the-variants.{Some, None}
-use Rattle.plan.specs.declared.association.Address.{Address}
 use Rattle.plan.specs.declared.association.Association.{Association}
-use Rattle.plan.proofs.Layouts.{Is-association, vacant, first-at}
-use Rattle.plan.specs.Members.{Member, address, is-place-of, nobody, places-of, first-of, is-association, find-from, address-of, place-of}
+use Rattle.plan.proofs.Layouts.{vacant, first-at, sum-within}
+use Rattle.plan.specs.Members.{Member, is-place-of, is-code, nobody, places-of, first-of, is-association, find-from, address-of, place-of}
 use lib.Seq.{getD-take}
 use Rattle.plan.specs.Kept.{owner-list}
 use Rattle.plan.specs.Planned.{planned}
@@ -154,18 +152,32 @@ first-of-owner q p low high =
     let counted = q .counted in
     ap (λ (x : Association). x .first) (first-at q (getD (q .owners) (p - 1) 0) from (omega arith))
 
--- the place of a code, from its association x
-module _ (ms : List Member) (a c : ℕ) (x : Association) (is : Is-association ms a x) (l : c < x .size) where
-  inside : c < getD ms (a - 1) nobody .size
-  inside = rw (is .size) at l
+-- a code of a plan: its association, its first place, and that its place lies within the plan
+pub record Coded (q : Plan) (a c : ℕ) : Type 0 where
+  pub low : 1 ≤ a
+  pub high : a ≤ length (planned q)
+  pub inside : c < getD (planned q) (a - 1) nobody .size
+  pub first : getD (q .associations) (a - 1) vacant .first ≡ first-of (planned q) a
+  pub room : first-of (planned q) a + c ≤ q .places
 
-  pub place-here : Some (x .first + c) ≡ place-of ms a c
-  place-here =
-      let low = is .low in
-      let high = is .high in
-      let there : is-association ms a ≡ true = grind (arith, tells) in
-      let one = below c (getD ms (a - 1) nobody .size) inside in
-      rw (there, one, is .first)
+both : (x y : Bool) → (x && y) ≡ true → (x ≡ true) × (y ≡ true)
+both true y e = (refl, e)
+both false y e = absurd (let z : _≡_ {A = ℕ} 0 1 = cc in omega arith)
 
-  pub address-there : address-of ms (x .first + c) ≡ Some (address a c)
-  address-there = rw (is .first) (address-again ms a c (is .low) (is .high) inside)
+pub coded : (q : Plan) (a c : ℕ) → is-code (planned q) a c ≡ true → Coded q a c
+coded q a c e =
+    let parts = both (is-association (planned q) a) (ltb c (getD (planned q) (a - 1) nobody .size)) e in
+    let numbers = both (leb 1 a) (leb a (length (planned q))) (parts .0) in
+    let low : 1 ≤ a = leb-true _ _ (numbers .0) in
+    let high : a ≤ length (planned q) = leb-true _ _ (numbers .1) in
+    let inside : c < getD (planned q) (a - 1) nobody .size = ltb-true _ _ (parts .1) in
+    let counted = q .counted in
+    let placed = q .placed in
+    let within = sum-within (planned q) (a - 1) (omega arith) in
+    record {
+      low = low;
+      high = high;
+      inside = inside;
+      first = ap (λ (x : Association). x .first) (first-at q a low (omega arith));
+      room = omega arith;
+    }

@@ -1,7 +1,7 @@
 -- What a draft refuses, and what adding makes of it.
 -- draft-cases, draft-refusal: whether an association fits
 -- added: the plan with one more association
-use mathlib.Core.Bool.{cond, _||_}
+use mathlib.Core.Bool.{_||_}
 use mathlib.Core.List.{List, [], _∷_, _++_}
 use Prim.Native.Nat.{ℕ, _+_}
 use lib.Dec.{ltb, eqb}
@@ -14,7 +14,7 @@ use Rattle.signal.specs.declared.refusal.Refusal.the-variants.{Size, Full}
 use Rattle.signal.specs.Refusals.{Case, first-fitting}
 use Rattle.plan.specs.Members.{Member, drafted, places-of}
 
--- a size of 0 or over 256; a 129th association, or a 4097th code
+-- a size that no association has; a 129th association, or a 4097th code
 abbrev pub draft-cases : List Member → ℕ → List Case
 draft-cases ms size =
     (eqb size 0 || ltb 256 size, Size) ∷

@@ -1,11 +1,11 @@
 -- The plan: associations in order, all their codes in order as places.
--- Member: an association as drafted
+-- Member, drafted, nobody: an association as drafted
 -- places-of: how many codes there are
 -- is-place-of, is-association: which numbers there are
 -- first-of, association-of: an association's first place, and the association
 -- address, find-from, address-of: which association and code a place is
--- place-of: which place a code is
--- members: the plan that an array of associations stands for
+-- is-code, place-of: which place a code is
+-- member, members: the plan that an array of associations stands for
 use mathlib.Core.Bool.{Bool, cond, _&&_}
 use mathlib.Core.List.{List, [], _∷_, map}
 use Prim.Native.Nat.{ℕ, _+_, _-_}
@@ -23,6 +23,7 @@ pub record Member : Type 0 where
   pub size : ℕ
   pub side : Side
 
+-- an association of that size and side
 abbrev pub drafted : ℕ → Side → Member
 drafted size side = record { size = size; side = side }
 
@@ -64,13 +65,18 @@ find-from a (m ∷ ms) i = cond (ltb i (m .size)) (Some (address a i)) (find-fro
 abbrev pub address-of : List Member → ℕ → Option Address
 address-of ms p = cond (leb 1 p) (find-from 1 ms (p - 1)) None
 
--- which place a code is; codes are numbered from 0
-abbrev pub place-of : List Member → ℕ → ℕ → Option ℕ
-place-of ms a c = cond (is-association ms a && ltb c (getD ms (a - 1) nobody .size)) (Some (first-of ms a + c)) None
+-- codes are numbered from 0
+abbrev pub is-code : List Member → ℕ → ℕ → Bool
+is-code ms a c = is-association ms a && ltb c (getD ms (a - 1) nobody .size)
 
--- the plan that the first n of a list of associations stand for
+-- which place a code is
+abbrev pub place-of : List Member → ℕ → ℕ → Option ℕ
+place-of ms a c = cond (is-code ms a c) (Some (first-of ms a + c)) None
+
+-- an association without its first place, which the plan determines
 abbrev pub member : Association → Member
 member x = record { size = x .size; side = x .side }
 
+-- the plan that the first n of a list of associations stand for
 abbrev pub members : ℕ → List Association → List Member
 members n xs = map member (take n xs)

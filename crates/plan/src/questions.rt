@@ -5,7 +5,7 @@ ghost use lib.ListN.{length};
 ghost use Rattle.std.specs.Options.{isSome};
 ghost use Rattle.std.specs.Slices.{found};
 ghost use Rattle.std.specs.declared.option.Option.the-variants.{Some, None};
-ghost use Rattle.plan.specs.Members.{places-of, is-place-of, association-of, address, address-of, place-of};
+ghost use Rattle.plan.specs.Members.{places-of, is-place-of, is-code, association-of, address, address-of, place-of};
 ghost use Rattle.plan.specs.Planned.{planned};
 use crate::association::Address;
 use crate::association::Association;
@@ -41,13 +41,28 @@ impl Plan {
         ensures value { λ r. ⌜ r ≡ place-of (planned (now (self .entry))) association code ⌝ }
         ensures inverse { λ r. ⌜ found r (λ p. address-of (planned (now (self .entry))) p ≡ Some (address association code)) ⌝ }
     {
-        let Some(codes) = self.association(association) else {
-            return None;
-        };
-        if code >= codes.size as u32 {
+        if !self.has_code(association, code) {
             return None;
         }
-        Some(codes.first + code as u16)
+        Some(self.place_within(association, code))
+    }
+
+    fn has_code(&self, association: u16, code: u32) -> bool
+        ensures { λ r. ⌜ r ≡ is-code (planned (now (self .entry))) association code ⌝ }
+    {
+        match self.association(association) {
+            Some(codes) => code < codes.size as u32,
+            None => false,
+        }
+    }
+
+    fn place_within(&self, association: u16, code: u32) -> u16
+        requires { ⌜ is-code (planned (now self)) association code ≡ true ⌝ }
+        ensures value { λ r. ⌜ place-of (planned (now (self .entry))) association code ≡ Some r ⌝ }
+        ensures inverse { λ r. ⌜ address-of (planned (now (self .entry))) r ≡ Some (address association code) ⌝ }
+    {
+        let first = self.associations[association as usize - 1].first;
+        first + code as u16
     }
 
     // The association and code that a place is, or none where there is no such place.

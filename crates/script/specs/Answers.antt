@@ -31,6 +31,7 @@ hunt-answer a order (Some x) = Hunt a order (x .size) (x .side)
 abbrev pub draft-answer : List Member → ℕ → Answer
 draft-answer ms size = refused-or (draft-refusal ms size) (Drafted (length ms + 1) (places-of ms + 1) (places-of ms + size))
 
+-- the answer to a command
 abbrev pub answer-of : List Member → Command → Answer
 answer-of ms (Draft-one size side) = draft-answer ms size
 answer-of ms (Show-hunt order a) = hunt-answer a order (association-of ms a)

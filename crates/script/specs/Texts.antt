@@ -30,6 +30,7 @@ abbrev pub codes-text : (ℕ → ℕ) → ℕ → ℕ → List ℕ
 codes-text order p zero = []
 codes-text order p (suc left) = (codes " " ++ decimal (order p)) ++ codes-text order (p + 1) left
 
+-- an answer to a command
 abbrev pub answer-text : Answer → List ℕ
 answer-text (Drafted a first last) = codes "association " ++ (decimal a ++ (codes " places " ++ (decimal first ++ (codes "-" ++ decimal last))))
 answer-text (Hunt a order n side) = (codes "hunt " ++ (decimal a ++ codes ":")) ++ codes-text (named order n side) 0 n

@@ -1,10 +1,9 @@
 // The node that a script drafts, and the commands carried out on it.
 ghost use mathlib.Core.Path.{_≡_};
 ghost use mathlib.Core.List.{[]};
-ghost use Prim.Native.Nat.{ℕ, _+_, _≤_};
-ghost use lib.ListN.{length};
-ghost use Rattle.plan.specs.Drafts.{draft-refusal, added};
-ghost use Rattle.plan.specs.Members.{places-of, association-of};
+ghost use Prim.Native.Nat.{_+_};
+ghost use Rattle.plan.specs.Drafts.{added};
+ghost use Rattle.plan.specs.Members.{association-of};
 ghost use Rattle.plan.specs.Planned.{in-draft};
 ghost use Rattle.script.specs.Answers.{answer-of, plan-after, draft-answer, hunt-answer};
 use crate::answer::Answer;

@@ -1,5 +1,4 @@
 // The hunt orders that a script can name, as one hunt order.
-ghost use mathlib.Core.Path.{_≡_};
 ghost use Rattle.script.specs.Orders.{named};
 use hunt::order::HuntOrder;
 use hunt::own_half::OwnHalfFirst;

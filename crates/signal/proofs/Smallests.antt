@@ -8,9 +8,9 @@ use lib.Dec.{leb}
 use lib.ListN.{length, getD}
 use Rattle.std.proofs.shelf.Ways.{tells}
 use Rattle.std.specs.declared.option.Option.{Option}
-use Rattle.std.specs.declared.option.Option.the-variants.{Some, None}
+use Rattle.std.specs.declared.option.Option.the-variants.{Some}
 use Rattle.signal.specs.declared.refusal.Refusal.{Refusal}
-use Rattle.signal.specs.Refusals.{Case, Smallest, first-fitting, refusal-number, no-case}
+use Rattle.signal.specs.Refusals.{Case, Smallest, refusal-number, no-case}
 
 -- the numbers ascend, from a bound on
 abbrev pub ascend : ℕ → List Case → Bool

@@ -5,25 +5,25 @@ ghost use Rattle.signal.specs.Refusals.{refusal-number};
 // A refused call alters nothing. Where several cases fit, the one with the smallest number is answered.
 #[derive(Clone, Copy, PartialEq, Eq, Debug)]
 pub enum Refusal {
-    // The message list or the note list has fewer than 96 entries.
+    // A list that the caller lends, for messages or for notes, has no room for 96 entries.
     Lists,
-    // The code table is shorter than the places.
+    // The code table that the caller lends lacks a record for some place.
     Table,
-    // The association is 0 or beyond the last.
+    // There is no association of that number.
     Association,
-    // A code, a range or a place lies outside.
+    // There is no such code or place, or a range reaches beyond its association.
     Place,
-    // Digits, a cause, a route or a range are not valid.
+    // The digits, the cause, the route or the range cannot be what they are.
     Content,
-    // The time is before the node's, or over 4,000,000,000.
+    // The time goes back, or is later than 4,000,000,000.
     Time,
-    // An IAM after call number 999,999,999.
+    // The last call number, 999,999,999, was given to an earlier IAM.
     CallNumbers,
-    // An order where one is still unanswered.
+    // The association's last order still waits for its answer.
     Unanswered,
-    // A drafted size of 0 or over 256.
+    // No association has that many codes: 1 to 256 are allowed.
     Size,
-    // More than 128 associations or 4,096 codes.
+    // A draft has no room for a 129th association or a 4,097th code.
     Full,
 }
 

@@ -1,8 +1,8 @@
 use Prim.Native.Nat.{_+_, _-_, _<_}
 use mathlib.Core.Path.{_≡_, ap, _∙_}
-use mathlib.Core.List.{List, _∷_, [], _++_, append-assoc}
+use mathlib.Core.List.{_∷_, [], _++_, append-assoc}
 use native.Mathlib.Omega.{arith}
-use lib.ListN.{length, take, replicate}
+use lib.ListN.{length, take}
 use Rattle.std.proofs.shelf.Lists.{take-more-set, replicate-more}
 use Rattle.plan.proofs.grow.own.Needs as need
 

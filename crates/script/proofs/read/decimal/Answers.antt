@@ -1,11 +1,9 @@
-use mathlib.Core.Path.{_≡_, sym, ap, _∙_}
+use mathlib.Core.Path.{_≡_, sym, _∙_}
 use mathlib.Core.Bool.{false, _&&_}
-use Prim.Native.Nat.{_+_, _≤_}
 use native.Mathlib.Omega.{arith}
 use lib.Dec.{leb}
-use lib.ListN.{length, getD, drop}
+use lib.ListN.{getD}
 use Rattle.std.proofs.shelf.Ways.{tells}
-use Rattle.script.specs.Numbers.{digits-from}
 use Rattle.script.proofs.Digits.{digit, no-digit, all-digits, no-number}
 use Rattle.script.proofs.read.decimal.Needs as need
 

@@ -1,9 +1,8 @@
 use Prim.Native.Nat.{_-_}
 use native.Mathlib.Omega.{arith}
 use lib.ListN.{getD}
-use Rattle.std.proofs.shelf.Ways.{tells}
 use Rattle.plan.specs.Planned.{planned}
-use Rattle.plan.proofs.Places.{Inside, inside-places, owner-at, first-of-owner, address-at, place-again}
+use Rattle.plan.proofs.Places.{inside-places, owner-at, first-of-owner, address-at, place-again}
 use Rattle.plan.proofs.plan.Plan.address_within.Needs as need
 
 pub sub-association : need.sub-association

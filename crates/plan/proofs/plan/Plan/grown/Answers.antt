@@ -1,5 +1,4 @@
 use native.Mathlib.Omega.{arith}
-use borrow.Author.Needs.{needs}
 use lib.ListN.{length-set}
 use Rattle.plan.proofs.Growing.{grown, grown-counted, grown-placed, grown-fair, grown-laid, grown-owned}
 use Rattle.plan.proofs.plan.Plan.grown.Needs as need
