@@ -1,4 +1,6 @@
 // Bearer hosts: who sets up and gives back the bearers of a node's calls.
+#![tactic(auto)]
+
 pub mod closed;
 pub mod host;
 pub mod percall;

@@ -1,4 +1,6 @@
 // A node under command: drafted, opened, worked with and asked, one command after another.
+#![tactic(auto)]
+
 pub mod answer;
 pub mod command;
 pub mod exchange;

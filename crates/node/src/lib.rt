@@ -1,4 +1,6 @@
 // The open node: its calls work on its own memory and on what the caller lends.
+#![tactic(auto)]
+
 mod bearers;
 mod desk;
 pub mod lent;

@@ -1,4 +1,6 @@
 // The plan of a node: its associations, and the places that their codes are.
+#![tactic(auto)]
+
 pub mod association;
 pub mod draft;
 mod grow;

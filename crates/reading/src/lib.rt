@@ -1,4 +1,6 @@
 // Commands read from lines of text.
+#![tactic(auto)]
+
 mod digits;
 pub mod fault;
 mod numbers;

@@ -1,4 +1,6 @@
 // Scripts: commands read from text, carried out on a node, and answered in text.
+#![tactic(auto)]
+
 pub mod answer;
 pub mod command;
 pub mod exchange;

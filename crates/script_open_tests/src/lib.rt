@@ -1,4 +1,6 @@
 // Scripts with lines in error, which end the program with status 1, from text to text.
+#![tactic(auto)]
+
 #[cfg(test)]
 mod tests {
     use script_open::runner::run;

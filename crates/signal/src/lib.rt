@@ -1,4 +1,6 @@
 // The vocabulary of a transit node: what it takes in, what it gives out and what it remembers of a code.
+#![tactic(auto)]
+
 pub mod cause;
 pub mod charge;
 pub mod code;

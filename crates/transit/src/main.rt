@@ -1,4 +1,6 @@
 // The program: reads a script and answers it line by line.
+#![tactic(auto)]
+
 use anyhow::anyhow;
 use script::runner::Runner;
 use std::env;

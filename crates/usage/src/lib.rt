@@ -1,4 +1,6 @@
 // How the library is meant to be used. Each file of misuse/ turns this into something that must not compile.
+#![tactic(auto)]
+
 ghost use Rattle.std.specs.Prelude.{◌≡◌, [], ◌∷◌};
 ghost use Rattle.plan.specs.Members.{drafted};
 ghost use Rattle.plan.specs.Planned.{in_draft};

@@ -1,4 +1,6 @@
 // How the vocabulary of a node is written as text.
+#![tactic(auto)]
+
 pub mod digits;
 pub mod due;
 pub mod flag;
