@@ -13,19 +13,19 @@ loop-code-preserved g c =
     let at = here order n side p code c.in-Some.ensures in
     (omega (arith, at.0), miss (order n side) (marked c.args.marks.now) p n c.loop-code.invariant.1 code at.0 at.1 (search rules))
 
-pub returns-in-default : goal.returns-in-default
-returns-in-default g c =
+pub returns-in_default : goal.returns-in_default
+returns-in_default g c =
     let order = g.O.HuntOrder.order c.args.order.now in
     let lawful = g.met.O.HuntOrder.lawful c.args.order.now in
     let n = c.args.n in
     let side = c.args.side in
     let test = marked c.args.marks.now in
     let p = c.loop-code.position in
-    let all = none (order n side) test p n c.loop-code.invariant.1 (past order n side p c.in-default.ensures) in
+    let all = none (order n side) test p n c.loop-code.invariant.1 (past order n side p c.in_default.ensures) in
     record { value = all; found = found (order n side) test n _ all; exactly = exactly order lawful side test n _ all }
 
-pub returns-then-is-marked : goal.returns-then-is-marked
-returns-then-is-marked g c =
+pub returns-then-is_marked : goal.returns-then-is_marked
+returns-then-is_marked g c =
     let order = g.O.HuntOrder.order c.args.order.now in
     let lawful = g.met.O.HuntOrder.lawful c.args.order.now in
     let n = c.args.n in
