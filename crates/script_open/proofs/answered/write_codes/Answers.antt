@@ -4,7 +4,7 @@ use Rattle.hunt.proofs.Firsts.{here, past}
 use Rattle.choice.specs.Orders.{named}
 use Rattle.script_open.proofs.Texts.{codes_more}
 use Rattle.script_open.proofs.answered.write_codes.Goals as goal
-use Rattle.script_open.proofs.answered.write_codes.Goals.{in-Some+in-ok-write, in-default}
+use Rattle.script_open.proofs.answered.write_codes.Goals.{in-Some+in_ok-write, in_default}
 
 pub loop-position-preserved : goal.loop-position-preserved
 loop-position-preserved g c =
@@ -14,10 +14,10 @@ loop-position-preserved g c =
     let side = c.args.side in
     let p = c.loop-position.position in
     elim c.match-code-at.branch [
-      | in-Some+in-ok-write w ↦ (λ plain.
+      | in-Some+in_ok-write w ↦ (λ plain.
           let before = c.loop-position.invariant plain in
-          let one = w.in-ok-write.ensures.shows before.plain refl in
+          let one = w.in_ok-write.ensures.shows before.plain refl in
           let there = (here order n side p w.in-Some.code w.in-Some.ensures).1 in
           has_written_to_eq took _ _ _ _ w.f-is (has_written_of_eq took _ _ _ _ (codes_more (order n side) p w.in-Some.code there) (has_written_append took _ _ _ _ _ before one)))
-      | in-default w ↦ (λ plain. absurd (omega (arith, past order n side p w.in-default.ensures)))
+      | in_default w ↦ (λ plain. absurd (omega (arith, past order n side p w.in_default.ensures)))
     ]

@@ -6,8 +6,8 @@ use Rattle.script_open.proofs.runner.run.Goals as goal
 pub loop-line-preserved : goal.loop-line-preserved
 loop-line-preserved c =
     let before = c.loop-line.invariant in
-    let line = c.in-ok-line.field-0 in
-    let did = c.in-ok-line.ensures in
+    let line = c.in_ok-line.field-0 in
+    let did = c.in_ok-line.ensures in
     let stood = standing c.loop-line.runner in
     let text = string_bytes c.loop-line.text in (
       before.0 ++ line ∷ [],

@@ -7,6 +7,6 @@ pub returns-in-Some : goal.returns-in-Some
 unfolding lift looking sending sending_on
 returns-in-Some g c = search rules
 
-pub returns-in-default : goal.returns-in-default
+pub returns-in_default : goal.returns-in_default
 unfolding lift looking resting sending_on
-returns-in-default g c = search rules
+returns-in_default g c = search rules

@@ -3,8 +3,8 @@ use Rattle.plan.specs.Planned.{planned}
 use Rattle.plan.proofs.Places.{inside_places, owner_at, first_of_owner, address_at, place_again}
 use Rattle.plan.proofs.plan.Plan.address_within.Goals as goal
 
-pub overflow-sub-association : goal.overflow-sub-association
-overflow-sub-association c = (inside_places c.args.self.now c.args.place c.requires).low
+pub overflow_sub-association : goal.overflow_sub-association
+overflow_sub-association c = (inside_places c.args.self.now c.args.place c.requires).low
 
 pub bounds-self-place : goal.bounds-self-place
 bounds-self-place c =
@@ -12,8 +12,8 @@ bounds-self-place c =
     let room = c.args.self.now.room in
     omega (arith, is.low, is.high)
 
-pub overflow-sub-first : goal.overflow-sub-first
-overflow-sub-first c =
+pub overflow_sub-first : goal.overflow_sub-first
+overflow_sub-first c =
     let is = inside_places c.args.self.now c.args.place c.requires in
     (owner_at c.args.self.now c.args.place is.low is.high).low
 
@@ -25,8 +25,8 @@ bounds-self-association c =
     let few = c.args.self.now.few in
     omega arith
 
-pub overflow-sub-result : goal.overflow-sub-result
-overflow-sub-result c =
+pub overflow_sub-result : goal.overflow_sub-result
+overflow_sub-result c =
     let is = inside_places c.args.self.now c.args.place c.requires in
     let low = is.low in
     let after = (owner_at c.args.self.now c.args.place is.low is.high).after in

@@ -3,15 +3,15 @@ use Rattle.plan.specs.Planned.{planned}
 use Rattle.plan.proofs.Places.{coded, address_again}
 use Rattle.plan.proofs.plan.Plan.place_within.Goals as goal
 
-pub overflow-cast-result : goal.overflow-cast-result
-overflow-cast-result c =
+pub overflow_cast-result : goal.overflow_cast-result
+overflow_cast-result c =
     let is = coded c.args.self.now c.args.association c.args.code c.requires in
     let room = is.room in
     let most = c.args.self.now.room in
     search rules
 
-pub overflow-add-result : goal.overflow-add-result
-overflow-add-result c =
+pub overflow_add-result : goal.overflow_add-result
+overflow_add-result c =
     let is = coded c.args.self.now c.args.association c.args.code c.requires in
     let first = is.first in
     let room = is.room in

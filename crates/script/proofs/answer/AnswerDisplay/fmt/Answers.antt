@@ -5,8 +5,8 @@ use Rattle.script.proofs.answer.AnswerDisplay.fmt.Goals as goal
 pub returns-in-Drafted-clause-writes : goal.returns-in-Drafted-clause-writes
 returns-in-Drafted-clause-writes g c = λ plain ok. rw c.in-Drafted.is (c.write.ensures.shows plain ok)
 
-pub returns-in-ok-write-clause-writes : goal.returns-in-ok-write-clause-writes
-returns-in-ok-write-clause-writes g c =
+pub returns-in_ok-write-clause-writes : goal.returns-in_ok-write-clause-writes
+returns-in_ok-write-clause-writes g c =
     λ plain ok.
-    let head = c.in-ok-write.ensures.shows plain refl in
+    let head = c.in_ok-write.ensures.shows plain refl in
     rw c.in-Hunt.is (has_written_append g.W.Write.write_str_gives _ _ _ _ _ head (c.write-codes.ensures head.plain ok))

@@ -12,8 +12,8 @@ loop-i-preserved g c =
       simp length-take (omega arith),
       λ plain.
           let before = c.loop-i.invariant.1 plain in
-          let one = c.in-ok-write-char.ensures.writes before.plain refl in
-          has_written_of_eq took _ _ _ _ (called_more values i c.digit-char.result c.digit-char.ensures inside) (has_written_append took _ _ _ _ _ before one),
+          let one = c.in_ok-write_char.ensures.writes before.plain refl in
+          has_written_of_eq took _ _ _ _ (called_more values i c.digit_char.result c.digit_char.ensures inside) (has_written_append took _ _ _ _ _ before one),
     )
 
 pub returns-clause-writes : goal.returns-clause-writes
