@@ -12,16 +12,16 @@ impl<H: BearerHost, O: HuntOrder> Node<H, O> {
     // Gives back the bearer of a place.
     pub(crate) fn give(&mut self, desk: &mut Desk, place: u16)
         ensures calls { self.new.calls ≡ self.old.calls }
-        ensures did { Did state order 0 0 (giving kit place) self.old self.new desk.old desk.new }
+        ensures did { Did H.state O.order 0 0 (giving H.kit place) self.old self.new desk.old desk.new }
     {
         self.host.give(place);
     }
 
     // Seizes a bearer for a place, and tells whether there was one.
     pub(crate) fn seize(&mut self, desk: &mut Desk, place: u16) -> bool
-        ensures seized { result ≡ kit.seizes (state self.old.host) place }
+        ensures seized { result ≡ H.kit.seizes (H.state self.old.host) place }
         ensures calls { self.new.calls ≡ self.old.calls }
-        ensures did { Did state order 0 0 (seizing kit place) self.old self.new desk.old desk.new }
+        ensures did { Did H.state O.order 0 0 (seizing H.kit place) self.old self.new desk.old desk.new }
     {
         self.host.seize(place)
     }
@@ -29,7 +29,7 @@ impl<H: BearerHost, O: HuntOrder> Node<H, O> {
     // The bearer of a place is up.
     pub(crate) fn settle(&mut self, desk: &mut Desk, place: u16)
         ensures calls { self.new.calls ≡ self.old.calls }
-        ensures did { Did state order 0 0 (settling kit place) self.old self.new desk.old desk.new }
+        ensures did { Did H.state O.order 0 0 (settling H.kit place) self.old self.new desk.old desk.new }
     {
         self.host.settle(place);
     }
@@ -38,7 +38,7 @@ impl<H: BearerHost, O: HuntOrder> Node<H, O> {
     pub(crate) fn next_call(&mut self, desk: &mut Desk) -> u32
         requires { self.old.calls < 999999999 }
         ensures next { result ≡ self.old.calls + 1 }
-        ensures did { Did state order 0 0 numbering self.old self.new desk.old desk.new }
+        ensures did { Did H.state O.order 0 0 numbering self.old self.new desk.old desk.new }
     {
         self.calls += 1;
         self.calls

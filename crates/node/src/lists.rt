@@ -14,7 +14,7 @@ impl<H: BearerHost, O: HuntOrder> Node<H, O> {
     // Sends a message on a place. On place 0 nothing is sent.
     pub(crate) fn send_on(&self, desk: &mut Desk, place: u16, content: Content)
         requires { Ready 1 0 self.now desk.old }
-        ensures { Did state order 1 0 (sending_on place content) self.now self.now desk.old desk.new }
+        ensures { Did H.state O.order 1 0 (sending_on place content) self.now self.now desk.old desk.new }
     {
         if let Some(address) = self.plan.address(place) {
             desk.messages[desk.sent] = Message {
@@ -28,7 +28,7 @@ impl<H: BearerHost, O: HuntOrder> Node<H, O> {
 
     pub(crate) fn note(&self, desk: &mut Desk, note: Note)
         requires { Ready 0 1 self.now desk.old }
-        ensures { Did state order 0 1 (noting note) self.now self.now desk.old desk.new }
+        ensures { Did H.state O.order 0 1 (noting note) self.now self.now desk.old desk.new }
     {
         desk.notes[desk.noted] = note;
         desk.noted += 1;

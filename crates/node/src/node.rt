@@ -1,8 +1,6 @@
 // The open node, with what always holds of it.
 ghost use Rattle.std.specs.Prelude.{◌≡◌, ◌≤◌, length};
 
-use bearer::host::BearerHost;
-use hunt::order::HuntOrder;
 use plan::limits::ASSOCIATIONS;
 use plan::plan::Plan;
 use signal::maintenance::Unanswered;
@@ -10,7 +8,7 @@ use signal::maintenance::Unanswered;
 // `calls` is the call number given last, and `orders` has at index a - 1 the order of
 // association a that waits for its answer.
 #[derive(Drop)]
-pub struct Node<H: BearerHost, O: HuntOrder> {
+pub struct Node<H, O> {
     pub(crate) host: H,
     pub(crate) order: O,
     pub(crate) plan: Plan,

@@ -19,10 +19,10 @@ impl<H: BearerHost, O: HuntOrder> Node<H, O> {
     // Opens a node over what was drafted. The draft, the host and the hunt order are used up, and
     // every record of the table that is lent becomes blank.
     pub fn open(draft: Draft, mut host: H, way: O, table: &mut [Code]) -> Node<H, O>
-        ensures world { world_of state order result table.new ≡ opened kit (state host) (order way) (in_draft draft) (length table.old) }
+        ensures world { world_of H.state O.order result table.new ≡ opened H.kit (H.state host) (O.order way) (in_draft draft) (length table.old) }
         ensures table { table.new ≡ replicate (length table.old) blank }
-        ensures phases { Cleared kit (state result.host) }
-        ensures first { next_call (world_of state order result table.new) ≡ 1 }
+        ensures phases { Cleared H.kit (H.state result.host) }
+        ensures first { next_call (world_of H.state O.order result table.new) ≡ 1 }
     {
         host.clear();
         blank_all(table);

@@ -10,7 +10,7 @@ use plan::plan::Plan;
 impl<H: BearerHost, O: HuntOrder> Node<H, O> {
     // How far the bearer of a place has come.
     pub fn phase(&self, place: u16) -> Phase
-        ensures { result ≡ kit.phase (state self.now.host) place }
+        ensures { result ≡ H.kit.phase (H.state self.now.host) place }
     {
         self.host.phase(place)
     }

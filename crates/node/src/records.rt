@@ -14,7 +14,7 @@ impl<H: BearerHost, O: HuntOrder> Node<H, O> {
     // The record of a place. Place 0, which means none, reads as a blank one.
     pub(crate) fn code(&self, desk: &Desk, place: u16) -> Code
         requires { (Ready 0 0 self.now desk.now) × (place ≤ places self.now) }
-        ensures { result ≡ at (world_of state order self.now desk.now.table.now).table place }
+        ensures { result ≡ at (world_of H.state O.order self.now desk.now.table.now).table place }
     {
         if place == 0 {
             return Code::blank();
@@ -25,7 +25,7 @@ impl<H: BearerHost, O: HuntOrder> Node<H, O> {
     // Writes the record of a place. Place 0 is never written.
     pub(crate) fn write(&self, desk: &mut Desk, place: u16, code: Code)
         requires { (Ready 0 0 self.now desk.old) × (place ≤ places self.now) }
-        ensures { Did state order 0 0 (writing place code) self.now self.now desk.old desk.new }
+        ensures { Did H.state O.order 0 0 (writing place code) self.now self.now desk.old desk.new }
     {
         if place != 0 {
             desk.table[place as usize - 1] = code;
