@@ -89,7 +89,8 @@ impl Runner {
     {
         let answer = self.exchange.obey(command);
         self.count(answer);
-        writeln!(out, "{answer}")
+        writeln!(out, "{answer}")?;
+        Ok(())
     }
 
     fn fault(&mut self, fault: Fault, out: &mut String) -> fmt::Result
@@ -98,7 +99,8 @@ impl Runner {
     {
         self.errors = self.errors.saturating_add(1);
         let line = self.lines;
-        writeln!(out, "error line {line}: {fault}")
+        writeln!(out, "error line {line}: {fault}")?;
+        Ok(())
     }
 
     fn count(&mut self, answer: Answer)

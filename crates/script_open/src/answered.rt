@@ -79,7 +79,7 @@ fn write_codes<W: fmt::Write>(
     size: u16,
     side: Side,
 ) -> fmt::Result
-    ensures { WritesOnOk write_str_gives f.old result (codes_text (named order size side) 0 size) f.new }
+    ensures { WritesOnOk W.write_str_gives f.old result (codes_text (named order size side) 0 size) f.new }
 {
     for position in 0..size {
         if let Some(code) = order.code_at(size, side, position) {

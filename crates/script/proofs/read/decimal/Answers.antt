@@ -9,15 +9,15 @@ returns-then-digit-lt48 c =
     let i = c.loop-digit.digit-index in
     let either = c.then-digit-lt48.either in
     let none : (leb 48 (get_or ds i 0) && leb (get_or ds i 0) 57) ≡ false = grind (arith, nat_tests) in
-    no_number ds (sym c.if-is-empty.ensures) (sym c.loop-digit.invariant ∙ no_digit c.loop-digit.value ds i c.loop-digit-test.true none)
+    no_number ds (sym c.if-is_empty.ensures) (sym c.loop-digit.invariant ∙ no_digit c.loop-digit.value ds i c.loop-digit-test.true none)
 
 pub loop-digit-preserved : goal.loop-digit-preserved
 loop-digit-preserved c =
     let ds = c.args.digits.now in
     let i = c.loop-digit.digit-index in
-    let mul = c.saturating-mul.ensures in
-    let add = c.saturating-add-value.ensures in
+    let mul = c.saturating_mul.ensures in
+    let add = c.saturating_add-value.ensures in
     rw (add, mul) (digit c.loop-digit.value ds i c.loop-digit-test.true (omega arith) (omega arith) ∙ c.loop-digit.invariant)
 
 pub returns : goal.returns
-returns c = all_digits c.loop-digit.value c.args.digits.now c.loop-digit.digit-index (sym c.if-is-empty.ensures) c.loop-digit-test.false c.loop-digit.invariant
+returns c = all_digits c.loop-digit.value c.args.digits.now c.loop-digit.digit-index (sym c.if-is_empty.ensures) c.loop-digit-test.false c.loop-digit.invariant
