@@ -100,7 +100,8 @@ impl Runner {
     {
         self.count(answer);
         let answer = Answered(answer);
-        writeln!(out, "{answer}")
+        writeln!(out, "{answer}")?;
+        Ok(())
     }
 
     fn out_of_turn(&mut self, turn: Turn, out: &mut String) -> fmt::Result
@@ -110,7 +111,8 @@ impl Runner {
         self.errors = self.errors.saturating_add(1);
         let line = self.lines;
         let turn = OutOfTurn(turn);
-        writeln!(out, "error line {line}: {turn}")
+        writeln!(out, "error line {line}: {turn}")?;
+        Ok(())
     }
 
     fn fault(&mut self, fault: Fault, out: &mut String) -> fmt::Result
@@ -119,7 +121,8 @@ impl Runner {
     {
         self.errors = self.errors.saturating_add(1);
         let line = self.lines;
-        writeln!(out, "error line {line}: {fault}")
+        writeln!(out, "error line {line}: {fault}")?;
+        Ok(())
     }
 
     fn count(&mut self, answer: Answer)

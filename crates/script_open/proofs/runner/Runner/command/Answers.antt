@@ -5,6 +5,6 @@ pub returns-in-Err : goal.returns-in-Err
 returns-in-Err c =
     let heard = sym c.obey.ensures.answer ∙ c.in-Err.is in
     record {
-      stands = c.out-of-turn.ensures.stands ∙ rw (heard, c.obey.ensures.after);
-      writes = rw heard c.out-of-turn.ensures.writes;
+      stands = c.out_of_turn.ensures.stands ∙ rw (heard, c.obey.ensures.after);
+      writes = rw heard c.out_of_turn.ensures.writes;
     }
