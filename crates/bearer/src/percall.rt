@@ -2,7 +2,7 @@
 ghost use Rattle.std.specs.Prelude.{◌≡◌, ℕ, ◌+◌, ◌-◌, ◌≤◌, length, nat_lt};
 ghost use Rattle.bearer.specs.PerCall.{Meaning, at_place, means, phase_of, per_call, used, fresh};
 ghost use Rattle.bearer.specs.declared.phase.Phase.TheVariants.{Nothing};
-ghost use Rattle.std.proofs.Common.{rules, arith};
+ghost use Rattle.std.proofs.Common.{rules};
 
 use crate::host::BearerHost;
 use crate::phase::Phase;
@@ -52,7 +52,7 @@ impl BearerHost for PerCall {
 
     ghost kit = { per_call };
 
-    ghost lawful = { first_of (Prim.search rules, Prim.grind (arith, Self.row.coded.inj)) };
+    ghost lawful = { Prim.search rules };
 
     fn clear(&mut self) {
         self.phases = no_bearers();

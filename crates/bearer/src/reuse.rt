@@ -2,7 +2,7 @@
 ghost use Rattle.std.specs.Prelude.{◌≡◌, ◌-◌, false, length, nat_lt};
 ghost use Rattle.bearer.specs.PerCall.{means, at_place, used};
 ghost use Rattle.bearer.specs.ReUse.{Keeping, re_use, keeping, fresh_keeping};
-ghost use Rattle.std.proofs.Common.{rules, arith};
+ghost use Rattle.std.proofs.Common.{rules};
 
 use crate::host::BearerHost;
 use crate::percall::{PLACES, PerCall};
@@ -50,7 +50,7 @@ impl BearerHost for ReUse {
 
     ghost kit = { re_use };
 
-    ghost lawful = { first_of (Prim.search rules, Prim.grind (arith, Self.row.coded.inj)) };
+    ghost lawful = { Prim.search rules };
 
     fn clear(&mut self) {
         self.bearers.clear();

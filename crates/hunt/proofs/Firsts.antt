@@ -1,5 +1,5 @@
 -- The laws of the first position that passes a test.
-use Rattle.std.proofs.Common.{◌≡◌, ℕ, zero, suc, ◌+◌, ◌-◌, ◌<◌, ◌≤◌, Bool, true, false, cond, ltb, ◌⊎◌, Some, None, Option, sym, refl, ap, ◌∙◌, ⊎_elim, eq-or-lt_of_le, arith}
+use Rattle.std.proofs.Common.{◌≡◌, ℕ, zero, suc, ◌+◌, ◌-◌, ◌<◌, ◌≤◌, Bool, true, false, cond, ltb, Some, None, Option, sym, refl, ap, ◌∙◌, ⊎_elim, eq-or-lt_of_le, arith}
 use Rattle.std.specs.Option.{option_map}
 use Rattle.hunt.specs.declared.side.Side.{Side}
 use Rattle.std.proofs.lemmas.Bool.Decides.{nat_tests}

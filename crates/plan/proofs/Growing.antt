@@ -1,5 +1,5 @@
 -- One association more at the end of a plan.
-use Rattle.std.proofs.Common.{◌≡◌, ℕ, ◌+◌, ◌-◌, ◌<◌, ◌≤◌, true, List, [], ◌∷◌, ◌++◌, length, take, set, replicate, sym, ap, ◌∙◌, append_assoc, append-nil, add-zero, add_assoc, arith}
+use Rattle.std.proofs.Common.{◌≡◌, ℕ, ◌+◌, ◌<◌, ◌≤◌, true, List, [], ◌∷◌, ◌++◌, length, take, set, replicate, sym, ap, ◌∙◌, append_assoc, append-nil, add-zero, add_assoc, arith}
 use mathlib.Core.List.{map-append}
 use Rattle.std.proofs.lemmas.List.{take_more_set, length_push}
 use Rattle.std.proofs.lemmas.Bool.Decides.{nat_tests}
