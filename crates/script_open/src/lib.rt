@@ -1,4 +1,4 @@
-// Scripts: commands read from text, carried out on a node, and answered in text.
+// Scripts that also open a node: commands read, carried out, and answered in text.
 #![tactic(auto)]
 
 pub mod answered;

@@ -6,14 +6,15 @@ use script::runner::Runner;
 use std::env;
 use std::fs::File;
 use std::io::{BufRead, BufReader, Read};
+use std::process::ExitCode;
 
-fn main(rt: HostRuntime) -> anyhow::Result<()> {
+fn main(rt: HostRuntime) -> ExitCode {
     match serve(&rt) {
-        Ok(true) => Ok(()),
-        Ok(false) => Err(anyhow!("there are lines in error")),
+        Ok(true) => ExitCode::SUCCESS,
+        Ok(false) => ExitCode::FAILURE,
         Err(error) => {
-            eprintln!(rt; "transit: {error}")?;
-            Err(error)
+            let _ = eprintln!(rt; "transit: {error}");
+            ExitCode::FAILURE
         }
     }
 }

@@ -1,4 +1,4 @@
-// The program: reads a script and answers it line by line.
+// The program: reads a script, which may open a node, and answers it line by line.
 #![tactic(auto)]
 
 use anyhow::anyhow;
@@ -6,14 +6,15 @@ use script_open::runner::Runner;
 use std::env;
 use std::fs::File;
 use std::io::{BufRead, BufReader, Read};
+use std::process::ExitCode;
 
-fn main(rt: HostRuntime) -> anyhow::Result<()> {
+fn main(rt: HostRuntime) -> ExitCode {
     match serve(&rt) {
-        Ok(true) => Ok(()),
-        Ok(false) => Err(anyhow!("there are lines in error")),
+        Ok(true) => ExitCode::SUCCESS,
+        Ok(false) => ExitCode::FAILURE,
         Err(error) => {
-            eprintln!(rt; "transit_open: {error}")?;
-            Err(error)
+            let _ = eprintln!(rt; "transit_open: {error}");
+            ExitCode::FAILURE
         }
     }
 }
