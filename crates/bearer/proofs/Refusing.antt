@@ -1,5 +1,5 @@
 -- A host that refuses every seizure has no bearers.
-use Rattle.std.proofs.Common.{◌≡◌, false, ltb, sym, ap, ◌∙◌, arith}
+use Rattle.std.proofs.Common.{◌≡◌, false, ltb, sym, ◌∙◌, arith}
 use Rattle.std.proofs.lemmas.Bool.Decides.{nat_tests}
 use Rattle.bearer.specs.Kit.{HostKit}
 use Rattle.bearer.specs.Laws.{HostLaws}
@@ -15,6 +15,3 @@ module _ {S : Type 0} (k : HostKit S) (laws : HostLaws k) where
   refusing_has_size_zero refuses s =
       let e : ltb 0 (k.size s) ≡ false = sym (first_place s) ∙ refuses (k.cleared s) 1 in
       grind (arith, nat_tests)
-
-  pub cleared_spare : (s t : S) → t ≡ k.cleared s → k.spare t ≡ k.size s
-  cleared_spare s t e = ap (λ u. k.spare u) e ∙ laws.clear_makes_spare_the_size s

@@ -1,6 +1,9 @@
 pub mod Kit
+pub mod ByPlace
 pub mod Laws
 pub mod Phases
 pub mod Closed
 pub mod PerCall
 pub mod ReUse
+pub mod States
+pub mod Words

@@ -1,11 +1,12 @@
 -- The per-call host, which drops a bearer when it is given back.
 -- Meaning: its states
--- at_place, means: the state that an array of phases and two numbers stand for
 -- fresh: the state of a new host
 -- used: how many places have a bearer
 -- phase_of, put, clear_all, may_seize, seize_one, settle_one, give_one: single calls
 -- per_call: what its calls do
-use Rattle.std.specs.Prelude.{ℕ, ◌+◌, ◌-◌, min, Bool, cond, ◌&&◌, List, [], ◌∷◌, ◌==◌, nat_lt, slice_index_or}
+use Rattle.std.specs.Prelude.{ℕ, ◌+◌, ◌-◌, min, Bool, cond, not, ◌&&◌, List, ◌==◌, nat_lt}
+use Rattle.std.specs.List.{count_by}
+use Rattle.bearer.specs.ByPlace.{everywhere}
 use Rattle.bearer.specs.Kit.{HostKit, is_none, is_place, raised}
 use Rattle.bearer.specs.declared.phase.Phase.{Phase}
 use Rattle.bearer.specs.declared.phase.Phase.TheVariants.{Nothing, Forming}
@@ -16,22 +17,13 @@ pub record Meaning : Type 0 where
   pub spare : ℕ
   pub size : ℕ
 
--- what stands at place p, whose index in the list is p - 1; a place outside 1 to 4096 has d
-abbrev pub at_place : {A : Type 0} → List A → A → ℕ → A
-at_place xs d p = cond (is_place p) (slice_index_or xs (p - 1) d) d
-
--- the state that a list of phases, a spare count and a size stand for
-abbrev pub means : List Phase → ℕ → ℕ → Meaning
-means xs n m = record { phases = at_place xs Nothing; spare = n; size = m }
-
 -- a new host has no bearer at any place, and all of its size spare; a size over 4096 counts as 4096
 abbrev pub fresh : ℕ → Meaning
-fresh n = record { phases = λ _. Nothing; spare = min n 4096; size = min n 4096 }
+fresh n = record { phases = everywhere Nothing; spare = min n 4096; size = min n 4096 }
 
 -- how many of the phases are not none
 abbrev pub used : List Phase → ℕ
-used [] = 0
-used (x ∷ xs) = cond (is_none x) 0 1 + used xs
+used xs = count_by (λ x. not (is_none x)) xs
 
 -- the phase of a place; none outside 1 to 4096
 abbrev pub phase_of : Meaning → ℕ → Phase
@@ -43,7 +35,7 @@ put f p x q = cond (q == p) x (f q)
 
 -- every bearer dropped
 abbrev pub clear_all : Meaning → Meaning
-clear_all s = record { phases = λ _. Nothing; spare = s.size; size = s.size }
+clear_all s = record { phases = everywhere Nothing; spare = s.size; size = s.size }
 
 -- a seizure succeeds at a place from 1 to 4096 whose phase is none, while a bearer is spare
 abbrev pub may_seize : Meaning → ℕ → Bool

@@ -1,6 +1,7 @@
 // Bearer hosts: who sets up and gives back the bearers of a node's calls.
 #![tactic(auto)]
 
+pub mod by_place;
 pub mod closed;
 pub mod host;
 pub mod percall;

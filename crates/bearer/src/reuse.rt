@@ -1,52 +1,49 @@
 // The re-use host: a bearer which is given back while it is up is kept for its place.
-ghost use Rattle.std.specs.Prelude.{◌≡◌, ◌-◌, false, length, nat_lt};
-ghost use Rattle.bearer.specs.PerCall.{means, at_place, used};
-ghost use Rattle.bearer.specs.ReUse.{Keeping, re_use, keeping, fresh_keeping};
+ghost use Rattle.std.specs.Prelude.{◌≡◌, ◌-◌, nat_lt};
+ghost use Rattle.bearer.specs.PerCall.{used};
+ghost use Rattle.bearer.specs.ReUse.{Keeping, re_use, fresh_keeping};
 ghost use Rattle.std.proofs.Common.{rules};
 
+use crate::by_place::ByPlace;
 use crate::host::BearerHost;
-use crate::percall::{PLACES, PerCall};
+use crate::percall::PerCall;
 use crate::phase::Phase;
 
 // A kept bearer lasts until clear or the next successful seizure of its place.
 #[derive(Drop)]
 pub struct ReUse {
     bearers: PerCall,
-    kept: [bool; PLACES],
-    ghost whole: { length kept ≡ 4096 },
-}
-
-// No bearer is kept.
-fn none_kept() -> [bool; PLACES]
-    ensures kept { at_place result false ≡ (λ _. false) }
-    ensures whole { length result ≡ 4096 }
-{
-    [false; PLACES]
+    // Apart from the phases, which are the per-call host's own.
+    kept: ByPlace<bool>,
 }
 
 impl ReUse {
+    ghost use Rattle.bearer.specs.States.{keeping};
+
     // A host of that many bearers, none of them kept; a size over 4096 counts as 4096.
     pub fn new(size: usize) -> ReUse
-        ensures { keeping (means result.bearers.phases result.bearers.spare result.bearers.size) result.kept ≡ fresh_keeping size }
+        ensures { keeping result ≡ fresh_keeping size }
     {
         ReUse {
             bearers: PerCall::new(size),
-            kept: none_kept(),
+            kept: ByPlace::all(false),
         }
     }
 
     // Whether a bearer is kept for the place.
     pub fn keeps(&self, place: u16) -> bool
-        ensures { result ≡ at_place self.now.kept false place }
+        ensures { result ≡ (keeping self.now).kept place }
     {
-        1 <= place && place as usize <= PLACES && self.kept[place as usize - 1]
+        self.kept.get(place).unwrap_or(false)
     }
 }
 
 impl BearerHost for ReUse {
+    ghost use Rattle.bearer.specs.States.{keeping};
+
     ghost State = { Keeping };
 
-    ghost state = { λ h. keeping (means h.bearers.phases h.bearers.spare h.bearers.size) h.kept };
+    ghost state = { keeping };
 
     ghost kit = { re_use };
 
@@ -54,13 +51,13 @@ impl BearerHost for ReUse {
 
     fn clear(&mut self) {
         self.bearers.clear();
-        self.kept = none_kept();
+        self.kept = ByPlace::all(false);
     }
 
     fn seize(&mut self, place: u16) -> bool {
         let seized = self.bearers.seize(place);
         if seized {
-            self.kept[place as usize - 1] = false;
+            self.kept.set(place, false);
         }
         seized
     }
@@ -71,7 +68,7 @@ impl BearerHost for ReUse {
 
     fn give(&mut self, place: u16) {
         if self.bearers.phase(place) == Phase::Up {
-            self.kept[place as usize - 1] = true;
+            self.kept.set(place, true);
         }
         self.bearers.give(place);
     }
@@ -83,7 +80,7 @@ impl BearerHost for ReUse {
     // Spare is the size less the places that have a bearer; kept bearers do not count.
     fn has_spare(&self) -> bool
         ensures value { result ≡ nat_lt 0 self.now.bearers.spare }
-        ensures counted { self.now.bearers.spare ≡ self.now.bearers.size - used self.now.bearers.phases }
+        ensures counted { self.now.bearers.spare ≡ self.now.bearers.size - used self.now.bearers.phases.entries }
     {
         self.bearers.has_spare()
     }

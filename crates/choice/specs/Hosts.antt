@@ -7,8 +7,9 @@
 -- keeps: whether a bearer is kept
 use Rattle.std.specs.Prelude.{Bool, false, ℕ}
 use Rattle.bearer.specs.Kit.{HostKit}
-use Rattle.bearer.specs.PerCall.{Meaning, means, fresh}
-use Rattle.bearer.specs.ReUse.{Keeping, keeping, fresh_keeping}
+use Rattle.bearer.specs.PerCall.{Meaning, fresh}
+use Rattle.bearer.specs.ReUse.{Keeping, fresh_keeping}
+use Rattle.bearer.specs.States.{meaning, keeping}
 use Rattle.bearer.specs.declared.percall.PerCall.{PerCall}
 use Rattle.bearer.specs.declared.reuse.ReUse.{ReUse}
 use Rattle.choice.specs.declared.host.Host.{Host}
@@ -28,7 +29,7 @@ state_of f g (ReUse-host h) = OfReUse (g h)
 
 -- the state of the per-call host or of the re-use host
 abbrev pub bearing : Host PerCall ReUse → Bearing Meaning Keeping
-bearing = state_of (λ h. means h.phases h.spare h.size) (λ h. keeping (means h.bearers.phases h.bearers.spare h.bearers.size) h.kept)
+bearing = state_of meaning keeping
 
 -- what the host that was chosen answers
 abbrev pub ask : {S T A : Type 0} → (S → A) → (T → A) → Bearing S T → A

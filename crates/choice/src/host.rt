@@ -14,8 +14,8 @@ pub enum HostKind {
     ReUse,
 }
 
-// Written plainly, `Host` is one of the two hosts of the crate `bearer`. It is generic since the prover
-// follows no `&mut` into a variant that holds a struct with a ghost field, as both of them are.
+// One of two hosts, and a host itself, whichever two they are. Unless it is said otherwise, they are
+// those of crate `bearer`. An enum, for a host that is made here is handed out, which no `dyn` may be.
 #[derive(Drop)]
 pub enum Host<P = PerCall, R = ReUse> {
     PerCall(P),

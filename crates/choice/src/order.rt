@@ -3,12 +3,12 @@ ghost use Rattle.choice.specs.Orders.{named};
 ghost use Rattle.hunt.specs.Lawfuls.{straight_lawful, own_half_first_lawful};
 ghost use Rattle.choice.specs.declared.order.Order.TheVariants.{Straight, OwnHalfFirst};
 
+use hunt::codes::Codes;
 use hunt::order::HuntOrder;
 use hunt::own_half::OwnHalfFirst;
-use hunt::side::Side;
 use hunt::straight::Straight;
 
-#[derive(Clone, Copy)]
+#[derive(Clone, Copy, PartialEq, Eq, Debug)]
 pub enum Order {
     Straight,
     OwnHalfFirst,
@@ -19,10 +19,10 @@ impl HuntOrder for Order {
 
     ghost lawful = { elim [ Straight ↦ straight_lawful | OwnHalfFirst ↦ own_half_first_lawful ] };
 
-    fn code_at(&self, n: u16, side: Side, position: u16) -> Option<u16> {
+    fn code_at(&self, codes: Codes, position: u16) -> Option<u16> {
         match self {
-            Order::Straight => Straight.code_at(n, side, position),
-            Order::OwnHalfFirst => OwnHalfFirst.code_at(n, side, position),
+            Order::Straight => Straight.code_at(codes, position),
+            Order::OwnHalfFirst => OwnHalfFirst.code_at(codes, position),
         }
     }
 }

@@ -1,10 +1,9 @@
 // What a command is answered.
 use bearer::phase::Phase;
 use choice::order::Order;
-use hunt::side::Side;
+use hunt::codes::Codes;
 use plan::association::Address;
 use signal::code::Code;
-use signal::refusal::Refusal;
 
 #[derive(Clone, Copy)]
 pub enum Answer {
@@ -18,8 +17,7 @@ pub enum Answer {
     Hunt {
         association: u16,
         order: Order,
-        size: u16,
-        side: Side,
+        codes: Codes,
     },
     // The node is open, with so many associations and places.
     Opened {
@@ -41,14 +39,4 @@ pub enum Answer {
     Poked,
     // It was done.
     Done,
-    Refused(Refusal),
-}
-
-// A command that came out of turn: it is not carried out.
-#[derive(Clone, Copy)]
-pub enum Turn {
-    // It needs an open node, and there is none yet.
-    NotOpen,
-    // It needs a draft, and the node is open.
-    Open,
 }

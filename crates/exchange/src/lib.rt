@@ -3,6 +3,8 @@
 
 pub mod answer;
 pub mod command;
+pub mod denial;
 pub mod exchange;
 pub mod obey;
-mod table;
+mod stage;
+mod text;

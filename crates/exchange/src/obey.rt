@@ -1,15 +1,13 @@
 // Commands carried out.
 ghost use Rattle.std.specs.Prelude.{◌≡◌};
-ghost use Rattle.plan.specs.Members.{association_of};
-ghost use Rattle.plan.specs.Planned.{planned};
 ghost use Rattle.exchange.specs.Sites.{site_of, fresh_site, stage_of, plan_of};
-ghost use Rattle.exchange.specs.Answers.{answer_of, site_after, hunt_answer, draft_answer, when_drafting};
-ghost use Rattle.exchange.specs.declared.command.Command.TheVariants.{Association as Draft-one, Open as Open-node, Show, Phase as Show-phase, Kept as Show-kept, Poke, Lists, Table};
+ghost use Rattle.exchange.specs.Answers.{answer_of, Obeyed};
 
-use crate::answer::{Answer, Turn};
+use crate::answer::Answer;
 use crate::command::Command;
+use crate::denial::Denial;
 use crate::exchange::Exchange;
-use crate::table::blank_table;
+use crate::stage::Stage;
 use bearer::host::BearerHost;
 use choice::host::{Host, HostKind};
 use choice::order::Order;
@@ -28,14 +26,9 @@ impl Exchange {
     pub fn new() -> Exchange
         ensures { site_of result ≡ fresh_site }
     {
-        let mut table = blank_table();
-        let none = Host::new(HostKind::PerCall, 0);
-        let node = Node::open(Draft::new(), none, Order::Straight, &mut table);
         Exchange {
-            draft: Draft::new(),
-            node,
-            opened: false,
-            table,
+            stage: Stage::Drafting(Draft::new()),
+            table: [Code::blank(); PLACES],
             lent: Lent {
                 codes: PLACES,
                 messages: ENTRIES,
@@ -46,23 +39,21 @@ impl Exchange {
 
     // What was drafted so far, or what the node was opened over.
     pub fn plan(&self) -> &Plan
-        ensures { planned result.now ≡ plan_of (stage_of self.now) }
+        ensures { result.now ≡ plan_of (stage_of self.now) }
     {
-        if self.opened {
-            self.node.plan()
-        } else {
-            self.draft.plan()
+        match &self.stage {
+            Stage::Drafting(draft) => draft.plan(),
+            Stage::Open(node) => node.plan(),
         }
     }
 
-    // Carries out a command, if it has its turn.
-    pub fn obey(&mut self, command: Command) -> Result<Answer, Turn>
-        ensures answer { result ≡ answer_of (site_of self.old) command }
-        ensures after { site_of self.new ≡ site_after (site_of self.old) command }
+    // Carries out a command, or tells why not.
+    pub fn obey(&mut self, command: Command) -> Result<Answer, Denial>
+        ensures { Obeyed command (site_of self.old) (site_of self.new) result }
     {
         match command {
             Command::Association { size, side } => self.association(size, side),
-            Command::Hunt { order, association } => Ok(self.hunt(order, association)),
+            Command::Hunt { order, association } => self.hunt(order, association),
             Command::Open {
                 order,
                 host,
@@ -78,20 +69,14 @@ impl Exchange {
     }
 
     // Drafts one more association.
-    fn association(&mut self, size: usize, side: Side) -> Result<Answer, Turn>
-        ensures answer { result ≡ when_drafting (stage_of self.old) (draft_answer size) }
-        ensures after { site_of self.new ≡ site_after (site_of self.old) (Draft-one size side) }
+    fn association(&mut self, size: usize, side: Side) -> Result<Answer, Denial>
+        ensures { Obeyed (Command.Association size side) (site_of self.old) (site_of self.new) result }
     {
-        if self.opened {
-            return Err(Turn::Open);
-        }
-        if let Some(refusal) = self.draft.refuses(size) {
-            return Ok(Answer::Refused(refusal));
-        }
-        let before = self.draft.plan().places();
-        let association = self.draft.plan().associations() + 1;
-        let draft = mem::replace(&mut self.draft, Draft::new());
-        self.draft = draft.add(size, side);
+        let draft = self.stage.drafting()?;
+        draft.fits(size)?;
+        let before = draft.plan().places();
+        let association = draft.plan().associations() + 1;
+        *draft = mem::replace(draft, Draft::new()).add(size, side);
         Ok(Answer::Drafted {
             association,
             first: before + 1,
@@ -100,34 +85,29 @@ impl Exchange {
     }
 
     // Shows the hunt over an association.
-    fn hunt(&self, order: Order, association: u16) -> Answer
-        ensures { result ≡ hunt_answer association order (association_of (plan_of (stage_of self.now)) association) }
+    fn hunt(&self, order: Order, association: u16) -> Result<Answer, Denial>
+        ensures { result ≡ answer_of (site_of self.now) (Command.Hunt order association) }
     {
-        match self.plan().association(association) {
-            Some(codes) => Answer::Hunt {
-                association,
-                order,
-                size: codes.size,
-                side: codes.side,
-            },
-            None => Answer::Refused(Refusal::Association),
-        }
+        let found = self
+            .plan()
+            .association(association)
+            .ok_or(Refusal::Association)?;
+        Ok(Answer::Hunt {
+            association,
+            order,
+            codes: found.codes,
+        })
     }
 
     // Opens the node over what was drafted.
-    fn open(&mut self, order: Order, host: HostKind, bearers: usize) -> Result<Answer, Turn>
-        ensures answer { result ≡ answer_of (site_of self.old) (Open-node order host bearers) }
-        ensures after { site_of self.new ≡ site_after (site_of self.old) (Open-node order host bearers) }
+    fn open(&mut self, order: Order, host: HostKind, bearers: usize) -> Result<Answer, Denial>
+        ensures { Obeyed (Command.Open order host bearers) (site_of self.old) (site_of self.new) result }
     {
-        if self.opened {
-            return Err(Turn::Open);
-        }
-        let draft = mem::replace(&mut self.draft, Draft::new());
+        let draft = mem::replace(self.stage.drafting()?, Draft::new());
         let associations = draft.plan().associations();
         let places = draft.plan().places();
         let host = Host::new(host, bearers);
-        self.node = Node::open(draft, host, order, &mut self.table);
-        self.opened = true;
+        self.stage = Stage::Open(Node::open(draft, host, order, &mut self.table));
         Ok(Answer::Opened {
             associations,
             places,
@@ -135,79 +115,60 @@ impl Exchange {
     }
 
     // Shows the record of a place.
-    fn show(&self, place: u16) -> Result<Answer, Turn>
-        ensures { result ≡ answer_of (site_of self.now) (Show place) }
+    fn show(&self, place: u16) -> Result<Answer, Denial>
+        ensures { result ≡ answer_of (site_of self.now) (Command.Show place) }
     {
-        if !self.opened {
-            return Err(Turn::NotOpen);
-        }
-        match self.node.plan().address(place) {
-            Some(address) => Ok(Answer::Shown {
-                place,
-                address,
-                code: self.table[place as usize - 1],
-                phase: self.node.phase(place),
-            }),
-            None => Ok(Answer::Refused(Refusal::Place)),
-        }
+        let node = self.stage.opened()?;
+        let address = node.plan().address(place).ok_or(Refusal::Place)?;
+        Ok(Answer::Shown {
+            place,
+            address,
+            code: self.table[place as usize - 1],
+            phase: node.phase(place),
+        })
     }
 
     // Shows the phase of a place.
-    fn phase(&self, place: u16) -> Result<Answer, Turn>
-        ensures { result ≡ answer_of (site_of self.now) (Show-phase place) }
+    fn phase(&self, place: u16) -> Result<Answer, Denial>
+        ensures { result ≡ answer_of (site_of self.now) (Command.Phase place) }
     {
-        if !self.opened {
-            return Err(Turn::NotOpen);
-        }
-        Ok(Answer::Phase(self.node.phase(place)))
+        let node = self.stage.opened()?;
+        Ok(Answer::Phase(node.phase(place)))
     }
 
     // Shows whether the host keeps a bearer for a place.
-    fn kept(&self, place: u16) -> Result<Answer, Turn>
-        ensures { result ≡ answer_of (site_of self.now) (Show-kept place) }
+    fn kept(&self, place: u16) -> Result<Answer, Denial>
+        ensures { result ≡ answer_of (site_of self.now) (Command.Kept place) }
     {
-        if !self.opened {
-            return Err(Turn::NotOpen);
-        }
-        Ok(Answer::Kept(self.node.host().keeps(place)))
+        let node = self.stage.opened()?;
+        Ok(Answer::Kept(node.host().keeps(place)))
     }
 
     // Writes the record of a place.
-    fn poke(&mut self, place: u16, code: Code) -> Result<Answer, Turn>
-        ensures answer { result ≡ answer_of (site_of self.old) (Poke place code) }
-        ensures after { site_of self.new ≡ site_after (site_of self.old) (Poke place code) }
+    fn poke(&mut self, place: u16, code: Code) -> Result<Answer, Denial>
+        ensures { Obeyed (Command.Poke place code) (site_of self.old) (site_of self.new) result }
     {
-        if !self.opened {
-            return Err(Turn::NotOpen);
-        }
-        if self.node.plan().address(place).is_none() {
-            return Ok(Answer::Refused(Refusal::Place));
-        }
+        let node = self.stage.opened()?;
+        node.plan().address(place).ok_or(Refusal::Place)?;
         self.table[place as usize - 1] = code;
         Ok(Answer::Poked)
     }
 
     // Sets how long the lists are that calls are lent.
-    fn lists(&mut self, messages: usize, notes: usize) -> Result<Answer, Turn>
-        ensures answer { result ≡ answer_of (site_of self.old) (Lists messages notes) }
-        ensures after { site_of self.new ≡ site_after (site_of self.old) (Lists messages notes) }
+    fn lists(&mut self, messages: usize, notes: usize) -> Result<Answer, Denial>
+        ensures { Obeyed (Command.Lists messages notes) (site_of self.old) (site_of self.new) result }
     {
-        if !self.opened {
-            return Err(Turn::NotOpen);
-        }
+        self.stage.opened()?;
         self.lent.messages = messages;
         self.lent.notes = notes;
         Ok(Answer::Done)
     }
 
     // Sets how many records of the table calls are lent.
-    fn table(&mut self, codes: usize) -> Result<Answer, Turn>
-        ensures answer { result ≡ answer_of (site_of self.old) (Table codes) }
-        ensures after { site_of self.new ≡ site_after (site_of self.old) (Table codes) }
+    fn table(&mut self, codes: usize) -> Result<Answer, Denial>
+        ensures { Obeyed (Command.Table codes) (site_of self.old) (site_of self.new) result }
     {
-        if !self.opened {
-            return Err(Turn::NotOpen);
-        }
+        self.stage.opened()?;
         self.lent.codes = codes;
         Ok(Answer::Done)
     }

@@ -1,30 +1,28 @@
--- The first position that passes a test.
--- first_from, first: by search from a position on, and from the start
--- hunted: the code at the first position whose code passes
--- Found: what an answer says of the positions before it
+-- The first code of a hunt that passes a test.
+-- hunted: the first code that passes
+-- FoundSuch: what is known of the codes up to the one that was found, each answered by true or by false
+-- Found: the same, where a test answers
 -- NonePasses: no code passes
 -- marked: the test that a list of marks stands for
-use Rattle.std.specs.Prelude.{◌≡◌, ℕ, zero, suc, ◌+◌, ◌<◌, Bool, true, false, cond, List, Some, None, Option, slice_index_or}
-use Rattle.std.specs.Option.{option_map}
+use Rattle.std.specs.Prelude.{◌≡◌, ℕ, ◌<◌, Bool, true, false, List, map, Option, slice_index_or}
+use Rattle.std.specs.List.{find, range_with_len}
+use Rattle.std.specs.Option.{MatchOption}
 
--- the first position from p on that passes, of so many
-abbrev pub first_from : (ℕ → Bool) → ℕ → ℕ → Option ℕ
-first_from test p zero = None
-first_from test p (suc left) = cond (test p) (Some p) (first_from test (p + 1) left)
-
--- the first position below n that passes
-abbrev pub first : (ℕ → Bool) → ℕ → Option ℕ
-first test n = first_from test 0 n
-
--- the code at the first position whose code passes
+-- the first code that passes, of those at the positions below n
 abbrev pub hunted : (ℕ → ℕ) → (ℕ → Bool) → ℕ → Option ℕ
-hunted order test n = option_map order (first (λ p. test (order p)) n)
+hunted order test n = find test (map order (range_with_len 0 n))
+
+-- a code that was found is answered by true and stands at a position below n, and each code at an earlier position is answered by false;
+-- where none was found, the code of every position is answered by false
+abbrev pub FoundSuch : (ℕ → ℕ) → (ℕ → Bool → Type 0) → ℕ → Option ℕ → Type 0
+FoundSuch order answers n found =
+    let none_before : ℕ → Type 0 = λ p. (q : ℕ) → q < p → answers (order q) false in
+    MatchOption found (none_before n) (λ code. (p : ℕ) × (p < n) × (order p ≡ code) × answers code true × none_before p)
 
 -- a code that was found passes and stands at a position below n, and no code at an earlier position passes;
 -- where none was found, no code of any position passes
 abbrev pub Found : (ℕ → ℕ) → (ℕ → Bool) → ℕ → Option ℕ → Type 0
-Found order test n None = (p : ℕ) → p < n → test (order p) ≡ false
-Found order test n (Some code) = (p : ℕ) × (p < n) × (order p ≡ code) × (test code ≡ true) × ((q : ℕ) → q < p → test (order q) ≡ false)
+Found order test = FoundSuch order (λ code b. test code ≡ b)
 
 -- no code below n passes
 abbrev pub NonePasses : (ℕ → Bool) → ℕ → Type 0

@@ -2,10 +2,11 @@
 ghost use Rattle.hunt.specs.Orders.{own_half_first};
 ghost use Rattle.hunt.specs.Lawfuls.{own_half_first_lawful};
 
+use crate::codes::Codes;
 use crate::order::HuntOrder;
 use crate::side::Side;
 
-#[derive(Clone, Copy)]
+#[derive(Clone, Copy, PartialEq, Eq, Debug)]
 pub struct OwnHalfFirst;
 
 impl HuntOrder for OwnHalfFirst {
@@ -13,12 +14,13 @@ impl HuntOrder for OwnHalfFirst {
 
     ghost lawful = { λ o. own_half_first_lawful };
 
-    fn code_at(&self, n: u16, side: Side, position: u16) -> Option<u16> {
+    fn code_at(&self, codes: Codes, position: u16) -> Option<u16> {
+        let n = codes.size;
         if position >= n {
             return None;
         }
         let back = n - 1 - position;
-        Some(match side {
+        Some(match codes.side {
             Side::Even if position < n.div_ceil(2) => 2 * position,
             Side::Even => 2 * back + 1,
             Side::Odd if position < n / 2 => 2 * position + 1,

@@ -2,10 +2,11 @@
 ghost use Rattle.hunt.specs.Orders.{straight};
 ghost use Rattle.hunt.specs.Lawfuls.{straight_lawful};
 
+use crate::codes::Codes;
 use crate::order::HuntOrder;
 use crate::side::Side;
 
-#[derive(Clone, Copy)]
+#[derive(Clone, Copy, PartialEq, Eq, Debug)]
 pub struct Straight;
 
 impl HuntOrder for Straight {
@@ -13,13 +14,13 @@ impl HuntOrder for Straight {
 
     ghost lawful = { λ o. straight_lawful };
 
-    fn code_at(&self, n: u16, side: Side, position: u16) -> Option<u16> {
-        if position >= n {
+    fn code_at(&self, codes: Codes, position: u16) -> Option<u16> {
+        if position >= codes.size {
             return None;
         }
-        Some(match side {
+        Some(match codes.side {
             Side::Even => position,
-            Side::Odd => n - 1 - position,
+            Side::Odd => codes.size - 1 - position,
         })
     }
 }

@@ -3,11 +3,12 @@
 -- Outcome, Step: what a call, or a part of one, makes of a world
 -- sending, noting, changing, resting: the steps of which all others are made
 -- looking, _then_, each: how they are put together
--- Flow, laid, lift: a step in the midst of a call
+-- Sheet, laid, onto: a list, and what is written behind what it has so far
+-- Flow, lift: a step in the midst of a call
 -- with_table, with_host, next_call, with_call: changes of one part of a world
 use Rattle.std.specs.Prelude.{ℕ, zero, suc, ◌+◌, List, [], ◌∷◌, ◌++◌, length, Option, slice_set}
 use Rattle.hunt.specs.declared.side.Side.{Side}
-use Rattle.plan.specs.Members.{Member}
+use Rattle.hunt.specs.declared.codes.Codes.{Codes}
 use Rattle.signal.specs.declared.code.Code.{Code}
 use Rattle.signal.specs.declared.maintenance.Unanswered.{Unanswered}
 use Rattle.signal.specs.declared.message.Message.{Message}
@@ -19,7 +20,7 @@ pub record World (S : Type 0) : Type 0 where
   pub table : List Code
   pub host : S
   pub order : ℕ → Side → ℕ → ℕ
-  pub plan : List Member
+  pub plan : List Codes
   pub orders : List (Option Unanswered)
   pub time : ℕ
   pub calls : ℕ
@@ -43,20 +44,27 @@ unfoldable pub ◌then◌ : {S : Type 0} → Step S → Step S → Step S
   notes = (s w).notes ++ (t (s w).world).notes;
 }
 
--- a world in the midst of a call: with the records beyond the places, and the two lists as far as
--- they are written
-pub record Flow (S : Type 0) : Type 0 where
-  pub world : World S
-  pub rest : List Code
-  pub messages : List Message
-  pub sent : ℕ
-  pub notes : List Note
-  pub noted : ℕ
+-- a list, and how many of its entries are written
+pub record Sheet (X : Type 0) : Type 0 where
+  pub entries : List X
+  pub written : ℕ
 
 -- a list written over another, from index n on
 abbrev pub laid : {X : Type 0} → List X → ℕ → List X → List X
 laid xs n [] = xs
 laid xs n (y ∷ ys) = laid (slice_set xs n y) (n + 1) ys
+
+-- a list written behind what a sheet has so far
+abbrev pub onto : {X : Type 0} → Sheet X → List X → Sheet X
+onto s ys = record { entries = laid s.entries s.written ys; written = s.written + length ys }
+
+-- a world in the midst of a call: with the records beyond the places, and the two lists as far as
+-- they are written
+pub record Flow (S : Type 0) : Type 0 where
+  pub world : World S
+  pub rest : List Code
+  pub messages : Sheet Message
+  pub notes : Sheet Note
 
 module _ {S : Type 0} where
   -- one message
@@ -90,19 +98,17 @@ module _ {S : Type 0} where
   lift s f = record {
     world = (s f.world).world;
     rest = f.rest;
-    messages = laid f.messages f.sent (s f.world).messages;
-    sent = f.sent + length (s f.world).messages;
-    notes = laid f.notes f.noted (s f.world).notes;
-    noted = f.noted + length (s f.world).notes;
+    messages = onto f.messages (s f.world).messages;
+    notes = onto f.notes (s f.world).notes;
   }
 
   -- the table changed, and nothing else
   abbrev pub with_table : (List Code → List Code) → World S → World S
-  with_table f w = record { table = f w.table; host = w.host; order = w.order; plan = w.plan; orders = w.orders; time = w.time; calls = w.calls }
+  with_table f w = record w { table = f w.table }
 
   -- the host changed, and nothing else
   abbrev pub with_host : (S → S) → World S → World S
-  with_host f w = record { table = w.table; host = f w.host; order = w.order; plan = w.plan; orders = w.orders; time = w.time; calls = w.calls }
+  with_host f w = record w { host = f w.host }
 
   -- the number that the next call gets
   abbrev pub next_call : World S → ℕ
@@ -110,4 +116,4 @@ module _ {S : Type 0} where
 
   -- that number given, and nothing else
   abbrev pub with_call : World S → World S
-  with_call w = record { table = w.table; host = w.host; order = w.order; plan = w.plan; orders = w.orders; time = w.time; calls = next_call w }
+  with_call w = record w { calls = next_call w }

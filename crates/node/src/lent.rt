@@ -1,6 +1,6 @@
 // Whether what the caller lends suffices.
 ghost use Rattle.std.specs.Prelude.{◌≡◌};
-ghost use Rattle.signal.specs.Refusals.{first_fitting, Smallest};
+ghost use Rattle.signal.specs.Refusals.{first_fitting, judged, Smallest};
 ghost use Rattle.node.specs.Desks.{places};
 ghost use Rattle.node.specs.Lent.{lent_cases};
 
@@ -21,17 +21,17 @@ pub struct Lent {
 pub const ENTRIES: usize = 96;
 
 impl<H: BearerHost, O: HuntOrder> Node<H, O> {
-    // Why what is lent does not suffice, if it does not.
-    pub(crate) fn lent_refusal(&self, lent: Lent) -> Option<Refusal>
-        ensures value { result ≡ first_fitting (lent_cases (places self.now) lent) }
+    // Whether what is lent suffices.
+    pub(crate) fn suffices(&self, lent: Lent) -> Result<(), Refusal>
+        ensures value { result ≡ judged (first_fitting (lent_cases (places self.now) lent)) }
         ensures smallest { Smallest (lent_cases (places self.now) lent) }
     {
         if lent.messages < ENTRIES || lent.notes < ENTRIES {
-            return Some(Refusal::Lists);
+            return Err(Refusal::Lists);
         }
-        if lent.codes < self.plan.places() as usize {
-            return Some(Refusal::Table);
+        if lent.codes < usize::from(self.plan.places()) {
+            return Err(Refusal::Table);
         }
-        None
+        Ok(())
     }
 }

@@ -1,4 +1,4 @@
-// The open node: its calls work on its own memory and on what the caller lends.
+// The open node, with what its calls will work on: its own memory, and what the caller lends.
 #![tactic(auto)]
 
 mod bearers;

@@ -1,4 +1,6 @@
 // What is written into the caller's lists.
+#![tactic(auto, unfolding(crate::specs::World::lift, crate::specs::World::looking, crate::specs::World::resting, crate::specs::World::sending, crate::specs::World::noting, crate::specs::Steps::sending_on))]
+
 ghost use Rattle.node.specs.Desks.{Ready, Did};
 ghost use Rattle.node.specs.Steps.{sending_on};
 ghost use Rattle.node.specs.World.{noting};
@@ -17,20 +19,19 @@ impl<H: BearerHost, O: HuntOrder> Node<H, O> {
         ensures { Did H.state O.order 1 0 (sending_on place content) self.now self.now desk.old desk.new }
     {
         if let Some(address) = self.plan.address(place) {
-            desk.messages[desk.sent] = Message {
+            desk.messages.push(Message {
                 association: address.association,
-                code: address.code as u32,
+                code: u32::from(address.code),
                 content,
-            };
-            desk.sent += 1;
+            });
         }
     }
 
+    // Writes a note.
     pub(crate) fn note(&self, desk: &mut Desk, note: Note)
         requires { Ready 0 1 self.now desk.old }
         ensures { Did H.state O.order 0 1 (noting note) self.now self.now desk.old desk.new }
     {
-        desk.notes[desk.noted] = note;
-        desk.noted += 1;
+        desk.notes.push(note);
     }
 }

@@ -1,4 +1,6 @@
 // The one reader and the one writer of the code table.
+#![tactic(auto, unfolding(crate::specs::World::lift, crate::specs::World::changing, crate::specs::Steps::writing, crate::specs::Places::at, crate::specs::Places::put))]
+
 ghost use Rattle.std.specs.Prelude.{◌≡◌, ◌≤◌};
 ghost use Rattle.node.specs.Desks.{places, world_of, Ready, Did};
 ghost use Rattle.node.specs.Places.{at};
@@ -16,10 +18,10 @@ impl<H: BearerHost, O: HuntOrder> Node<H, O> {
         requires { (Ready 0 0 self.now desk.now) × (place ≤ places self.now) }
         ensures { result ≡ at (world_of H.state O.order self.now desk.now.table.now).table place }
     {
-        if place == 0 {
-            return Code::blank();
+        match place.checked_sub(1) {
+            Some(index) => desk.table[usize::from(index)],
+            None => Code::blank(),
         }
-        desk.table[place as usize - 1]
     }
 
     // Writes the record of a place. Place 0 is never written.
@@ -27,8 +29,8 @@ impl<H: BearerHost, O: HuntOrder> Node<H, O> {
         requires { (Ready 0 0 self.now desk.old) × (place ≤ places self.now) }
         ensures { Did H.state O.order 0 0 (writing place code) self.now self.now desk.old desk.new }
     {
-        if place != 0 {
-            desk.table[place as usize - 1] = code;
+        if let Some(index) = place.checked_sub(1) {
+            desk.table[usize::from(index)] = code;
         }
     }
 }

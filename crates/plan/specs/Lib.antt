@@ -1,4 +1,3 @@
 pub mod Members
 pub mod Kept
 pub mod Drafts
-pub mod Planned

@@ -1,67 +1,47 @@
 // How a plan is made: an empty one, and one association more.
-ghost use Rattle.std.specs.Prelude.{◌≡◌, ◌+◌, ◌<◌, ◌≤◌, [], ◌∷◌, ◌++◌, length, take, replicate};
-ghost use Rattle.plan.specs.Members.{drafted};
-ghost use Rattle.plan.specs.Planned.{planned};
+ghost use Rattle.std.specs.Prelude.{◌≡◌, ◌+◌, ◌<◌, ◌≤◌, [], ◌∷◌, ◌++◌, length, replicate};
+ghost use Rattle.arrayvec.specs.ArrayVec.{array_vec_len};
+ghost use Rattle.plan.specs.Members.{places_of};
 
 use crate::association::Association;
-use crate::limits::{ASSOCIATIONS, PLACES};
+use crate::limits::PLACES;
 use crate::plan::Plan;
-use hunt::side::Side;
-
-// What stands beyond the last association.
-const VACANT: Association = Association {
-    first: 0,
-    size: 0,
-    side: Side::Even,
-};
+use arrayvec::ArrayVec;
+use hunt::codes::Codes;
 
 impl Plan {
     pub(crate) fn empty() -> Plan
-        ensures { planned result ≡ [] }
+        ensures { result ≡ [] }
     {
         Plan {
-            associations: [VACANT; ASSOCIATIONS],
-            count: 0,
-            owners: [0; PLACES],
-            places: 0,
+            associations: ArrayVec::new(),
+            owners: ArrayVec::new(),
         }
     }
 
     // The plan with one more association, which fits.
-    pub(crate) fn grown(self, size: u16, side: Side) -> Plan
-        requires some { 1 ≤ size }
-        requires small { size ≤ 256 }
-        requires few { self.count < 128 }
-        requires room { self.places + size ≤ 4096 }
-        ensures { planned result ≡ planned self ++ (drafted size side ∷ []) }
+    pub(crate) fn grown(mut self, codes: Codes) -> Plan
+        requires some { 1 ≤ codes.size }
+        requires small { codes.size ≤ 256 }
+        requires few { length self < 128 }
+        requires room { places_of self + codes.size ≤ 4096 }
+        ensures { result ≡ self ++ codes ∷ [] }
     {
-        let Plan {
-            mut associations,
-            count,
-            mut owners,
-            places,
-        } = self;
-        associations[count as usize] = Association {
-            first: places + 1,
-            size,
-            side,
-        };
-        own(&mut owners, places as usize, size as usize, count as u8 + 1);
-        Plan {
-            associations,
-            count: count + 1,
-            owners,
-            places: places + size,
-        }
+        let first = self.owners.len() as u16 + 1;
+        self.associations.push(Association { first, codes });
+        let number = self.associations.len() as u8;
+        own(&mut self.owners, codes.size, number);
+        self
     }
 }
 
-// Makes the `n` places after the first `from` those of an association.
-fn own(owners: &mut [u8], from: usize, n: usize, association: u8)
-    requires { from + n ≤ length owners.old }
-    ensures { take (from + n) owners.new ≡ take from owners.old ++ replicate n association }
+// Makes the next `n` places those of an association.
+// By pushes, since `extend` answers a Result, and there is room.
+fn own(owners: &mut ArrayVec<u8, PLACES>, n: u16, association: u8)
+    requires { array_vec_len owners.old + n ≤ 4096 }
+    ensures { owners.new.items ≡ owners.old.items ++ replicate n association }
 {
-    for i in from..from + n {
-        owners[i] = association;
+    for _ in 0..n {
+        owners.push(association);
     }
 }

@@ -1,94 +1,73 @@
 // Questions to a plan.
-ghost use Rattle.std.specs.Prelude.{◌≡◌, true, false, length, is_some, IfSome, Some, None};
-ghost use Rattle.plan.specs.Members.{places_of, is_place_of, is_code, association_of, address, address_of, place_of};
-ghost use Rattle.plan.specs.Planned.{planned};
+ghost use Rattle.std.specs.Prelude.{◌≡◌, ◌+◌, ◌≤◌, true, length, is_some, IfSome, Some};
+ghost use Rattle.std.specs.Option.{option_map};
+ghost use Rattle.plan.specs.Kept.{sized};
+ghost use Rattle.plan.specs.Members.{places_of, is_place_of, association_of, address, address_of, place_of};
 
 use crate::association::{Address, Association};
 use crate::plan::Plan;
 
 impl Plan {
-    // How many associations there are.
+    // How many associations there are. Each has 1 to 256 codes.
     pub fn associations(&self) -> u16
-        ensures { result ≡ length (planned self.now) }
+        ensures value { result ≡ length self.now }
+        ensures few { result ≤ 128 }
+        ensures fair { sized self.now ≡ true }
     {
-        self.count
+        self.associations.len() as u16
     }
 
     // How many places there are.
+    #[tactic(auto, using(crate::proofs::Layouts::owned_places))]
     pub fn places(&self) -> u16
-        ensures { result ≡ places_of (planned self.now) }
+        ensures value { result ≡ places_of self.now }
+        ensures room { result ≤ 4096 }
     {
-        self.places
+        self.owners.len() as u16
     }
 
-    // The size, side and first place of an association.
+    // The codes and the first place of an association. All of them are places.
     pub fn association(&self, number: u16) -> Option<Association>
-        ensures { result ≡ association_of (planned self.now) number }
+        ensures value { result ≡ association_of self.now number }
+        ensures within { IfSome result (λ a. a.first + a.codes.size ≤ 4097) }
     {
-        if number == 0 || number > self.count {
-            return None;
-        }
-        Some(self.associations[number as usize - 1])
+        let index = usize::from(number).checked_sub(1)?;
+        self.associations.get(index).copied()
     }
 
     // The place of a code, or none where there is no such code.
+    #[tactic(auto, using(crate::proofs::Places::addresses))]
     pub fn place(&self, association: u16, code: u32) -> Option<u16>
-        ensures value { result ≡ place_of (planned self.now) association code }
-        ensures inverse { IfSome result (λ p. address_of (planned self.now) p ≡ Some (address association code)) }
+        ensures value { result ≡ place_of self.now association code }
+        ensures inverse { IfSome result (λ p. address_of self.now p ≡ Some (address association code)) }
     {
-        if !self.has_code(association, code) {
+        let Association { first, codes } = self.association(association)?;
+        if code >= u32::from(codes.size) {
             return None;
         }
-        Some(self.place_within(association, code))
-    }
-
-    fn has_code(&self, association: u16, code: u32) -> bool
-        ensures { result ≡ is_code (planned self.now) association code }
-    {
-        match self.association(association) {
-            Some(codes) => code < codes.size as u32,
-            None => false,
-        }
-    }
-
-    fn place_within(&self, association: u16, code: u32) -> u16
-        requires { is_code (planned self.now) association code ≡ true }
-        ensures value { place_of (planned self.now) association code ≡ Some result }
-        ensures inverse { address_of (planned self.now) result ≡ Some (address association code) }
-    {
-        let first = self.associations[association as usize - 1].first;
-        first + code as u16
+        Some(first + code as u16)
     }
 
     // The association and code that a place is, or none where there is no such place.
     pub fn address(&self, place: u16) -> Option<Address>
-        ensures value { result ≡ address_of (planned self.now) place }
-        ensures inverse { IfSome result (λ x. place_of (planned self.now) x.association x.code ≡ Some place) }
-        ensures within { is_some result ≡ is_place_of (planned self.now) place }
+        ensures value { result ≡ address_of self.now place }
+        ensures inverse { IfSome result (λ x. place_of self.now x.association x.code ≡ Some place) }
+        ensures within { is_some result ≡ is_place_of self.now place }
+        ensures limit { is_some result ≡ true → place ≤ 4096 }
     {
-        if !self.has_place(place) {
-            return None;
-        }
-        Some(self.address_within(place))
+        let association = self.owner(place)?;
+        let code = place - self.association(association)?.first;
+        Some(Address { association, code })
     }
 
-    fn has_place(&self, place: u16) -> bool
-        ensures value { result ≡ is_place_of (planned self.now) place }
-        ensures outside { result ≡ false → address_of (planned self.now) place ≡ None }
+    // The association of a place. A question of its own, on which `address` is proved.
+    fn owner(&self, place: u16) -> Option<u16>
+        ensures value { result ≡ option_map (λ x. x.association) (address_of self.now place) }
+        ensures inverse { IfSome (address_of self.now place) (λ x. place_of self.now x.association x.code ≡ Some place) }
+        ensures within { is_some result ≡ is_place_of self.now place }
+        ensures limit { is_some result ≡ true → place ≤ 4096 }
     {
-        1 <= place && place <= self.places
-    }
-
-    fn address_within(&self, place: u16) -> Address
-        requires { is_place_of (planned self.now) place ≡ true }
-        ensures value { address_of (planned self.now) place ≡ Some result }
-        ensures inverse { place_of (planned self.now) result.association result.code ≡ Some place }
-    {
-        let association = self.owners[place as usize - 1] as u16;
-        let first = self.associations[association as usize - 1].first;
-        Address {
-            association,
-            code: place - first,
-        }
+        let index = usize::from(place).checked_sub(1)?;
+        Some(u16::from(*self.owners.get(index)?))
     }
 }

@@ -1,36 +1,33 @@
 // The digits of a called number, as a script writes them.
-use crate::numbers::decimal;
+use crate::numbers::held;
 use signal::digits::{DIGITS, Digits};
 
 // Digits 0-9 a-f, or `-` for none; behind them may stand `/COUNT`, which sets their count apart.
 pub(crate) fn digits(word: &str) -> Option<Digits> {
     match word.split_once('/') {
-        Some((digits, count)) => counted(hexadecimal(digits.as_bytes())?, count),
+        Some((digits, count)) => Some(Digits {
+            count: held(count)?,
+            ..hexadecimal(digits.as_bytes())?
+        }),
         None => hexadecimal(word.as_bytes()),
     }
 }
 
-fn counted(digits: Digits, count: &str) -> Option<Digits> {
-    let count = decimal(count.as_bytes())?;
-    if count > 255 {
-        return None;
+fn hexadecimal(word: &[u8]) -> Option<Digits> {
+    match word {
+        [] => None,
+        [b'-'] => Some(Digits::none()),
+        _ => some_digits(word),
     }
-    Some(Digits {
-        count: count as u8,
-        ..digits
-    })
 }
 
-fn hexadecimal(word: &[u8]) -> Option<Digits> {
-    let mut values = [0; DIGITS];
-    if word.len() == 1 && word[0] == b'-' {
-        return Some(Digits { count: 0, values });
-    }
-    if word.is_empty() || word.len() > DIGITS {
+fn some_digits(word: &[u8]) -> Option<Digits> {
+    if word.len() > DIGITS {
         return None;
     }
-    for i in 0..word.len() {
-        values[i] = digit(word[i])?;
+    let mut values = [0; DIGITS];
+    for (value, letter) in values.iter_mut().zip(word) {
+        *value = digit(*letter)?;
     }
     Some(Digits {
         count: word.len() as u8,
@@ -38,6 +35,7 @@ fn hexadecimal(word: &[u8]) -> Option<Digits> {
     })
 }
 
+// The library's `to_digit` takes capitals too.
 fn digit(letter: u8) -> Option<u8> {
     match letter {
         b'0'..=b'9' => Some(letter - b'0'),

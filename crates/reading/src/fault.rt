@@ -2,9 +2,10 @@
 ghost use Rattle.std.specs.Prelude.{◌≡◌, Some};
 ghost use Rattle.reading.specs.Faults.{fault_text, part_text, wanted_text};
 
+use std::error::Error;
 use std::fmt;
 
-#[derive(Clone, Copy)]
+#[derive(Clone, Copy, Debug)]
 pub enum Fault<'a> {
     // The line is not UTF-8.
     NotText,
@@ -17,7 +18,7 @@ pub enum Fault<'a> {
 }
 
 // What a word of a command says.
-#[derive(Clone, Copy)]
+#[derive(Clone, Copy, Debug)]
 pub enum Part {
     Size,
     Side,
@@ -58,6 +59,8 @@ impl fmt::Display for Fault<'_> {
         }
     }
 }
+
+impl Error for Fault<'_> {}
 
 impl fmt::Display for Part {
     ghost output = { λ x. Some (part_text x) };
@@ -101,27 +104,23 @@ impl Part {
         ensures { result.now ≡ wanted_text self }
     {
         match self {
-            Part::Size => "a decimal number",
             Part::Side => "even or odd",
             Part::Order => "straight or own-half-first",
-            Part::Association => "a decimal number",
             Part::Host => "per-call or re-use",
-            Part::Bearers => "a decimal number",
-            Part::Place => "a decimal number",
             Part::State => "the name of a state or a number from 11 to 255",
-            Part::Partner => "a number up to 65535",
-            Part::Own => "yes or no",
-            Part::Peer => "yes or no",
-            Part::Call => "a number up to 4294967295",
-            Part::Route => "a number up to 65535",
+            Part::Own | Part::Peer => "yes or no",
+            Part::Partner | Part::Route => "a number up to 65535",
+            Part::Call | Part::AnswerTime => "a number up to 4294967295",
             Part::Digits => "- or up to 16 of 0-9 a-f",
-            Part::AnswerTime => "a number up to 4294967295",
             Part::Cause => "a number up to 255",
-            Part::Short => "off or a number up to 4294967295",
-            Part::Long => "off or a number up to 4294967295",
-            Part::Messages => "a decimal number",
-            Part::Notes => "a decimal number",
-            Part::Records => "a decimal number",
+            Part::Short | Part::Long => "off or a number up to 4294967295",
+            Part::Size
+            | Part::Association
+            | Part::Bearers
+            | Part::Place
+            | Part::Messages
+            | Part::Notes
+            | Part::Records => "a decimal number",
         }
     }
 }

@@ -3,6 +3,9 @@
 
 mod digits;
 pub mod fault;
+pub mod known;
+pub mod line;
+mod names;
 mod numbers;
 pub mod read;
 mod words;

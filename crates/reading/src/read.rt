@@ -1,102 +1,87 @@
 // A command read from a line.
-ghost use Rattle.std.specs.Prelude.{◌≡◌, true, None, Ok};
-ghost use Rattle.reading.specs.Lines.{is_comment};
+ghost use Rattle.std.specs.Prelude.{◌≡◌, true, None, Ok, IfOk, IfErr};
+ghost use Rattle.reading.specs.Lines.{is_comment, knows, part_of, knows_fault, knows_line};
 
+use crate::digits::digits;
 use crate::fault::{Fault, Part};
-use crate::words::{digits, due, flag, held, host, narrowed, number, order, side, state};
+use crate::known::Known;
+use crate::line::Line;
+use crate::names::{flag, host, order, side, state};
+use crate::numbers::{due, held, place};
+use crate::words::Words;
 use exchange::command::Command;
 use signal::code::Code;
-use std::str::SplitWhitespace;
 
 // The command of a line; none of a comment, or where there is no word.
-pub fn line(line: &[u8]) -> Result<Option<Command>, Fault<'_>>
+pub fn line(known: Known, line: &[u8]) -> Line<'_>
     ensures comment { is_comment line.now ≡ true → result ≡ Ok None }
+    ensures known { knows_line known result ≡ true }
 {
-    if !line.is_empty() && line[0] == b'#' {
+    if let [b'#', ..] = line {
         return Ok(None);
     }
     let Ok(text) = std::str::from_utf8(line) else {
         return Err(Fault::NotText);
     };
-    let mut words = text.split_whitespace();
+    let mut words = Words::new(text);
     let Some(name) = words.next() else {
         return Ok(None);
     };
-    Ok(Some(command(name, words)?))
-}
-
-fn command<'a>(name: &'a str, mut words: SplitWhitespace<'a>) -> Result<Command, Fault<'a>> {
-    let command = match name {
-        "association" => {
-            let size = number(Part::Size, words.next())? as usize;
-            let side = side(words.next())?;
-            Command::Association { size, side }
-        }
-        "hunt" => {
-            let order = order(words.next())?;
-            let association = narrowed(number(Part::Association, words.next())?);
-            Command::Hunt { order, association }
-        }
-        "open" => {
-            let order = order(words.next())?;
-            let host = host(words.next())?;
-            let bearers = number(Part::Bearers, words.next())? as usize;
-            Command::Open {
-                order,
-                host,
-                bearers,
-            }
-        }
-        "show" => Command::Show(place(words.next())?),
-        "phase" => Command::Phase(place(words.next())?),
-        "kept" => Command::Kept(place(words.next())?),
-        "poke" => {
-            let place = place(words.next())?;
-            let code = record(&mut words)?;
-            Command::Poke { place, code }
-        }
-        "lists" => {
-            let messages = number(Part::Messages, words.next())? as usize;
-            let notes = number(Part::Notes, words.next())? as usize;
-            Command::Lists { messages, notes }
-        }
-        "table" => Command::Table(number(Part::Records, words.next())? as usize),
-        _ => return Err(Fault::NoCommand(name)),
-    };
+    let command = command(known, name, &mut words)?;
     match words.next() {
         Some(word) => Err(Fault::Surplus(word)),
-        None => Ok(command),
+        None => Ok(Some(command)),
     }
 }
 
-fn place(word: Option<&str>) -> Result<u16, Fault<'_>> {
-    Ok(narrowed(number(Part::Place, word)?))
+fn command<'a>(known: Known, name: &'a str, words: &mut Words<'a>) -> Result<Command, Fault<'a>>
+    ensures known { IfOk result (λ c. knows known c ≡ true) }
+    ensures faults { IfErr result (λ fault. knows_fault known (part_of fault) ≡ true) }
+{
+    match name {
+        "association" => Ok(Command::Association {
+            size: words.read(Part::Size, held)?,
+            side: words.read(Part::Side, side)?,
+        }),
+        "hunt" => Ok(Command::Hunt {
+            order: words.read(Part::Order, order)?,
+            association: words.read(Part::Association, place)?,
+        }),
+        _ if known == Known::Planning => Err(Fault::NoCommand(name)),
+        "open" => Ok(Command::Open {
+            order: words.read(Part::Order, order)?,
+            host: words.read(Part::Host, host)?,
+            bearers: words.read(Part::Bearers, held)?,
+        }),
+        "show" => Ok(Command::Show(words.read(Part::Place, place)?)),
+        "phase" => Ok(Command::Phase(words.read(Part::Place, place)?)),
+        "kept" => Ok(Command::Kept(words.read(Part::Place, place)?)),
+        "poke" => Ok(Command::Poke {
+            place: words.read(Part::Place, place)?,
+            code: record(words)?,
+        }),
+        "lists" => Ok(Command::Lists {
+            messages: words.read(Part::Messages, held)?,
+            notes: words.read(Part::Notes, held)?,
+        }),
+        "table" => Ok(Command::Table(words.read(Part::Records, held)?)),
+        _ => Err(Fault::NoCommand(name)),
+    }
 }
 
 // The fields of a record, in the order in which `show` prints them.
-fn record<'a>(words: &mut SplitWhitespace<'a>) -> Result<Code, Fault<'a>> {
-    let state = state(words.next())?;
-    let partner = held(Part::Partner, 65_535, words.next())? as u16;
-    let own = flag(Part::Own, words.next())?;
-    let peer = flag(Part::Peer, words.next())?;
-    let call = held(Part::Call, 4_294_967_295, words.next())? as u32;
-    let route = held(Part::Route, 65_535, words.next())? as u16;
-    let digits = digits(words.next())?;
-    let answered = held(Part::AnswerTime, 4_294_967_295, words.next())? as u32;
-    let cause = held(Part::Cause, 255, words.next())? as u8;
-    let short = due(Part::Short, words.next())?;
-    let long = due(Part::Long, words.next())?;
+fn record<'a>(words: &mut Words<'a>) -> Result<Code, Fault<'a>> {
     Ok(Code {
-        state,
-        partner,
-        own,
-        peer,
-        call,
-        route,
-        digits,
-        answered,
-        cause,
-        short,
-        long,
+        state: words.read(Part::State, state)?,
+        partner: words.read(Part::Partner, held)?,
+        own: words.read(Part::Own, flag)?,
+        peer: words.read(Part::Peer, flag)?,
+        call: words.read(Part::Call, held)?,
+        route: words.read(Part::Route, held)?,
+        digits: words.read(Part::Digits, digits)?,
+        answered: words.read(Part::AnswerTime, held)?,
+        cause: words.read(Part::Cause, held)?,
+        short: words.read(Part::Short, due)?,
+        long: words.read(Part::Long, due)?,
     })
 }

@@ -1,5 +1,3 @@
-pub mod Orders
-pub mod Numbers
-pub mod Answers
 pub mod Tallies
 pub mod Texts
+pub mod Plans

@@ -4,22 +4,12 @@
 use Rattle.std.specs.Prelude.{◌≡◌, ℕ, ◌+◌, ◌-◌, ◌*◌, ◌/◌, ◌≤◌, Bool, true, false, cond}
 use Rattle.signal.specs.declared.code.Code.{Code}
 use Rattle.signal.specs.declared.state.State.{State}
-use Rattle.signal.specs.declared.state.State.TheVariants.{Idle, InSet, InRun, InTalk, OutWait, OutRing, OutHeld, OutTalk, Clearing, Resetting, GroupReset, Unknown}
+use Rattle.signal.specs.declared.state.State.TheVariants.{InTalk}
 
 -- the state of an incoming code whose call is answered
 abbrev pub is_talking : State → Bool
-is_talking Idle = false
-is_talking InSet = false
-is_talking InRun = false
 is_talking InTalk = true
-is_talking OutWait = false
-is_talking OutRing = false
-is_talking OutHeld = false
-is_talking OutTalk = false
-is_talking Clearing = false
-is_talking Resetting = false
-is_talking GroupReset = false
-is_talking (Unknown n) = false
+is_talking other = false
 
 -- the time since the answer: 0 where there was none, or where it lies ahead
 abbrev pub talk_seconds : Code → ℕ → ℕ

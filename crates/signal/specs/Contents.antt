@@ -1,8 +1,9 @@
 -- What messages and orders can carry.
--- no_digits, digits_of, all_digits, valid_digits: the digits of a called number
+-- no_digits, digits_of, is_digit, all_digits, valid_digits: the digits of a called number
 -- valid_cause: a cause
 -- valid_range: a span and its status bits
-use Rattle.std.specs.Prelude.{ℕ, ◌^◌, min, Bool, true, ◌&&◌, List, [], ◌∷◌, take, replicate, nat_le, nat_lt}
+use Rattle.std.specs.Prelude.{ℕ, ◌^◌, min, Bool, ◌&&◌, List, take, replicate, nat_le, nat_lt}
+use Rattle.std.specs.List.{list_all}
 use Rattle.signal.specs.declared.digits.Digits.{Digits}
 use Rattle.signal.specs.declared.range.Range.{Range}
 
@@ -15,9 +16,12 @@ abbrev pub digits_of : Digits → List ℕ
 digits_of d = take (min d.count 16) d.values
 
 -- a digit is at most 15
+abbrev pub is_digit : ℕ → Bool
+is_digit d = nat_le d 15
+
+-- all of them are digits
 abbrev pub all_digits : List ℕ → Bool
-all_digits [] = true
-all_digits (d ∷ ds) = nat_le d 15 && all_digits ds
+all_digits ds = list_all is_digit ds
 
 -- 1 to 16 digits, none over 15
 abbrev pub valid_digits : Digits → Bool

@@ -4,3 +4,4 @@ pub mod Charges
 pub mod Reactions
 pub mod Verdicts
 pub mod Refusals
+pub mod Words

@@ -2,8 +2,9 @@
 -- refusal_number: the number of each refusal
 -- Case, no_case: whether a refusal fits
 -- first_fitting: the refusal of a list of cases
+-- judged: what a check answers
 -- Smallest: it has the smallest number that fits
-use Rattle.std.specs.Prelude.{◌≡◌, ℕ, ◌<◌, ◌≤◌, Bool, true, false, cond, List, [], ◌∷◌, length, Some, None, Option, slice_index_or}
+use Rattle.std.specs.Prelude.{◌≡◌, ℕ, ◌<◌, ◌≤◌, Bool, true, false, cond, List, [], ◌∷◌, length, Some, None, Option, Ok, Err, Result, slice_index_or}
 use Rattle.signal.specs.declared.refusal.Refusal.{Refusal}
 use Rattle.signal.specs.declared.refusal.Refusal.TheVariants.{Lists, Table, Association, Place, Content, Time, CallNumbers, Unanswered, Size, Full}
 
@@ -32,6 +33,11 @@ no_case = (false, Lists)
 abbrev pub first_fitting : List Case → Option Refusal
 first_fitting [] = None
 first_fitting (x ∷ xs) = cond x.0 (Some x.1) (first_fitting xs)
+
+-- what a check answers: nothing to say where no case fits, or else the refusal
+abbrev pub judged : Option Refusal → Result (Unit {0}) Refusal
+judged None = Ok tt
+judged (Some r) = Err r
 
 -- what is answered has the smallest number of all the cases that fit
 abbrev pub Smallest : List Case → Type 0

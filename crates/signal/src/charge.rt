@@ -20,5 +20,5 @@ pub fn units(talk: u32) -> u32
     ensures value { result ≡ units talk }
     ensures laws { UnitsLaws }
 {
-    ((talk as u64 + 3) / 6) as u32
+    ((u64::from(talk) + 3) / 6) as u32
 }

@@ -6,10 +6,11 @@ use crate::digits::Digits;
 use crate::state::State;
 
 // What a state has no use for is blank: 0, without digits, or off.
-#[derive(Clone, Copy)]
+#[derive(Clone, Copy, Default)]
 pub struct Code {
     pub state: State,
     // The place of the code at the call's other end in this node; 0 is none.
+    // No `Option`: others may write any number into the table, and 0 is one of them.
     pub partner: u16,
     // Own block: the node bars the code from calls.
     pub own: bool,
@@ -34,18 +35,6 @@ impl Code {
     pub fn blank() -> Code
         ensures { result ≡ blank }
     {
-        Code {
-            state: State::Idle,
-            partner: 0,
-            own: false,
-            peer: false,
-            call: 0,
-            route: 0,
-            digits: Digits::none(),
-            answered: 0,
-            cause: 0,
-            short: None,
-            long: None,
-        }
+        Code::default()
     }
 }

@@ -6,6 +6,7 @@ use crate::range::Range;
 #[derive(Clone, Copy)]
 pub struct Message {
     pub association: u16,
+    // Of 32 bits, so that one that no association has can be handed over, and refused.
     pub code: u32,
     pub content: Content,
 }

@@ -15,6 +15,6 @@ impl Range {
     pub fn is_valid(self) -> bool
         ensures { result ≡ valid_range self }
     {
-        1 <= self.span && self.span <= 32 && self.status >> self.span == 0
+        (1..=32).contains(&self.span) && self.status < 1 << self.span
     }
 }

@@ -77,6 +77,8 @@ impl State {
         }
     }
 
+    // A number, since the table is a constant with a row for each state; a state that carries a number
+    // of its own cannot be cast to its row.
     fn row(self) -> Option<usize>
         ensures { result ≡ row self }
     {

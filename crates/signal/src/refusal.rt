@@ -6,42 +6,32 @@ ghost use Rattle.signal.specs.Refusals.{refusal_number};
 #[derive(Clone, Copy, PartialEq, Eq, Debug)]
 pub enum Refusal {
     // A list that the caller lends, for messages or for notes, has no room for 96 entries.
-    Lists,
+    Lists = 1,
     // The code table that the caller lends lacks a record for some place.
-    Table,
+    Table = 2,
     // There is no association of that number.
-    Association,
+    Association = 3,
     // There is no such code or place, or a range reaches beyond its association.
-    Place,
+    Place = 4,
     // The digits, the cause, the route or the range cannot be what they are.
-    Content,
+    Content = 5,
     // The time goes back, or is later than 4,000,000,000.
-    Time,
+    Time = 6,
     // The last call number, 999,999,999, was given to an earlier IAM.
-    CallNumbers,
+    CallNumbers = 7,
     // The association's last order still waits for its answer.
-    Unanswered,
+    Unanswered = 8,
+    // There is no 9.
     // No association has that many codes: 1 to 256 are allowed.
-    Size,
+    Size = 10,
     // A draft has no room for a 129th association or a 4,097th code.
-    Full,
+    Full = 11,
 }
 
 impl Refusal {
     pub fn number(self) -> u8
         ensures { result ≡ refusal_number self }
     {
-        match self {
-            Refusal::Lists => 1,
-            Refusal::Table => 2,
-            Refusal::Association => 3,
-            Refusal::Place => 4,
-            Refusal::Content => 5,
-            Refusal::Time => 6,
-            Refusal::CallNumbers => 7,
-            Refusal::Unanswered => 8,
-            Refusal::Size => 10,
-            Refusal::Full => 11,
-        }
+        self as u8
     }
 }

@@ -27,15 +27,16 @@ impl Verdict {
     {
         match self {
             Verdict::Taken(call) => Some(call),
-            Verdict::TurnedAway(cause) => Some(cause as u32),
-            Verdict::ServedPlace(place) => Some(place as u32),
-            Verdict::ServedAssociation(association) => Some(association as u32),
+            Verdict::TurnedAway(cause) => Some(u32::from(cause)),
+            Verdict::ServedPlace(place) => Some(u32::from(place)),
+            Verdict::ServedAssociation(association) => Some(u32::from(association)),
             _ => None,
         }
     }
 }
 
 // The verdict, and how many entries the call wrote into each list.
+// Counts alone, for the lists are memory that the caller lends.
 #[derive(Clone, Copy)]
 pub struct Reply {
     pub verdict: Verdict,

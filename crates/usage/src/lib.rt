@@ -3,7 +3,6 @@
 
 ghost use Rattle.std.specs.Prelude.{◌≡◌, [], ◌∷◌};
 ghost use Rattle.plan.specs.Members.{drafted};
-ghost use Rattle.plan.specs.Planned.{in_draft};
 ghost use Rattle.hunt.specs.declared.side.Side.TheVariants.{Even, Odd};
 
 use bearer::percall::PerCall;
@@ -15,7 +14,7 @@ use signal::code::Code;
 
 // Drafts two associations of four codes.
 pub fn two_associations() -> Draft
-    ensures { in_draft result ≡ drafted 4 Even ∷ (drafted 4 Odd ∷ []) }
+    ensures { result ≡ drafted 4 Even ∷ (drafted 4 Odd ∷ []) }
 {
     let draft = Draft::new();
     let draft = draft.add(4, Side::Even);

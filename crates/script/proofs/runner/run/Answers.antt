@@ -1,6 +1,6 @@
 use Rattle.std.proofs.Common.{[], ◌∷◌, ◌++◌, string_bytes}
 use Rattle.script.specs.Tallies.{standing}
-use Rattle.script.proofs.Lines.{stands_more, writes_more}
+use Rattle.script.proofs.Lines.{knows_more, stands_more, writes_more}
 use Rattle.script.proofs.runner.run.Goals as goal
 
 pub loop-line-preserved : goal.loop-line-preserved
@@ -11,6 +11,7 @@ loop-line-preserved c =
     let stood = standing c.loop-line.runner in
     let text = string_bytes c.loop-line.text in (
       before.0 ++ line ∷ [],
-      stands_more before.0 line stood (standing c.line.new.self) before.1 did.stands,
-      writes_more before.0 line stood text (string_bytes c.line.new.out) before.1 before.2 did.writes,
+      knows_more c.args.known before.0 line before.1 did.known,
+      stands_more before.0 line stood (standing c.line.new.self) before.2 did.stands,
+      writes_more before.0 line stood text (string_bytes c.line.new.out) before.2 before.3 did.writes,
     )

@@ -1,5 +1,5 @@
 use Rattle.std.proofs.Common.{rules}
-use lib.Seq.{take-set-lt}
+use Rattle.std.proofs.Math.Seq.{take-set-lt}
 use Rattle.node.specs.Places.{put}
 use Rattle.exchange.proofs.exchange.Exchange.poke.Goals as goal
 

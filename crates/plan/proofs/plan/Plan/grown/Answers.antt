@@ -1,24 +1,9 @@
-use Rattle.std.proofs.Common.{arith, length-set}
-use Rattle.plan.proofs.Growing.{grown, grown_counted, grown_placed, grown_fair, grown_laid, grown_owned}
+use Rattle.plan.proofs.Growing.{kept_more, room_for}
 use Rattle.plan.proofs.plan.Plan.grown.Goals as goal
 
-pub invariant_of-result : goal.invariant_of-result
-invariant_of-result c =
-    let q = c.args.self in
-    let size = c.args.size in
-    let side = c.args.side in
-    let few = c.requires.few in
-    record {
-      all = simp length-set q.all;
-      whole = omega (arith, q.whole, c.own.auto.owners);
-      few = omega arith;
-      room = omega (arith, c.requires.room);
-      fair = grown_fair q size side few c.requires.some c.requires.small;
-      counted = grown_counted q size side few;
-      placed = grown_placed q size side few;
-      laid = grown_laid q size side few;
-      owned = grown_owned q size side few c.own.new.owners c.own.ensures;
-    }
+pub own-requires : goal.own-requires
+own-requires c = room_for _ _ c.args.codes c.self.invariant (rw c.self.view_is c.requires.room)
 
-pub returns : goal.returns
-returns c = grown c.args.self c.args.size c.args.side c.requires.few
+pub invariant_of-self : goal.invariant_of-self
+invariant_of-self c =
+    rw (c.push.ensures.items, c.own.ensures, c.len-number.ensures.value, c.push.ensures.len, c.len.ensures.value) (kept_more _ _ c.args.codes c.self.invariant (rw c.self.view_is c.requires.few) (rw c.self.view_is c.requires.room) c.requires.some c.requires.small)

@@ -1,0 +1,4 @@
+// What every program that answers a script does.
+#![tactic(auto)]
+
+pub mod serve;

@@ -1,8 +1,0 @@
-use Rattle.std.specs.Fmt.{IsPlainFormatter, HasWritten}
-use Rattle.script.specs.Orders.{named}
-use Rattle.script.specs.Texts.{codes_text}
-use Rattle.script.proofs.answer.write_codes.Given as goal
-
--- the codes of the positions so far were written
-abbrev pub invariant-loop-position : goal.invariant-loop-position
-invariant-loop-position g l = IsPlainFormatter l.initial.f → HasWritten g.W.Write.write_str_gives l.initial.f (codes_text (named l.order l.size l.side) 0 l.position) l.f

@@ -1,9 +1,0 @@
-use Rattle.std.proofs.Common.{◌≡◌, List, string_bytes}
-use Rattle.script_open.specs.Tallies.{standing, fresh, after_all}
-use Rattle.script_open.specs.Texts.{lines_text}
-use Rattle.script_open.specs.declared.line.Line.{Line}
-use Rattle.script_open.proofs.runner.run.Given as goal
-
--- the lines so far, how the script stands after them, and what they were answered
-abbrev pub invariant-loop-line : goal.invariant-loop-line
-invariant-loop-line l = (ls : List Line) × (standing l.runner ≡ after_all ls fresh) × (string_bytes l.text ≡ lines_text ls fresh)

@@ -1,3 +1,0 @@
-pub mod Smallests
-pub mod Ranges
-pub mod Called
