@@ -8,6 +8,7 @@ use hunt::order::HuntOrder;
 use hunt::own_half::OwnHalfFirst;
 use hunt::straight::Straight;
 
+// An enum, for an order that is made here is handed out, as a host is.
 #[derive(Clone, Copy, PartialEq, Eq, Debug)]
 pub enum Order {
     Straight,

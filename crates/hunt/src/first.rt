@@ -5,7 +5,8 @@ ghost use Rattle.hunt.specs.First.{hunted, marked, Found, FoundSuch, NonePasses}
 use crate::codes::Codes;
 use crate::order::HuntOrder;
 
-// The code that a hunt finds first of those that are open, if any.
+// The code that a hunt finds first of those that are open, if any. Not public: whoever hands over a
+// closure has to show that it may be called, and a public call asks for nothing.
 pub(crate) fn first_such<O: HuntOrder, F: Fn(u16) -> bool>(
     order: &O,
     codes: Codes,
