@@ -1,13 +1,13 @@
 -- Associations laid out one after another, and the owners of their places.
 -- By recursion, as the definitions are: in the library's words those would be no plainer.
-use Rattle.std.proofs.Common.{◌≡◌, ℕ, zero, suc, ◌+◌, ◌<◌, ◌≤◌, cond, List, [], ◌∷◌, length, get_or, take, Some, None, nat_lt, refl, ap, ◌∙◌, arith}
+use Rattle.std.proofs.Common.{◌≡◌, ℕ, zero, suc, ◌+◌, ◌<◌, ◌≤◌, true, cond, List, [], ◌∷◌, length, get_or, take, Some, None, nat_lt, refl, ap, ◌∙◌, arith}
 use Rattle.std.specs.List.{slice_get}
 use Rattle.std.proofs.lemmas.Bool.Decides.{nat_tests}
 use Rattle.std.proofs.lemmas.List.{length-append, length-replicate}
 use Rattle.hunt.specs.declared.codes.Codes.{Codes}
 use Rattle.plan.specs.declared.association.Association.{Association}
 use Rattle.plan.specs.Members.{members, nobody, places_of}
-use Rattle.plan.specs.Kept.{Kept, laid_out, owner_list}
+use Rattle.plan.specs.Kept.{Kept, sized, laid_out, owner_list}
 
 -- each association with its first place
 pub laid_get : (p : ℕ) (ms : List Codes) (k : ℕ) → slice_get (laid_out p ms) k ≡ cond (nat_lt k (length ms)) (Some (record { first = p + places_of (take k ms); codes = get_or ms k nobody })) None
@@ -20,6 +20,12 @@ pub sum_within : (ms : List Codes) (k : ℕ) → k < length ms → places_of (ta
 sum_within [] k h = absurd (omega arith)
 sum_within (m ∷ ms) zero h = omega arith
 sum_within (m ∷ ms) (suc k) h = let rest = sum_within ms k (omega arith) in omega arith
+
+-- each association of a plan has 1 to 256 codes
+pub sized_at : (ms : List Codes) (k : ℕ) → sized ms ≡ true → k < length ms → (1 ≤ (get_or ms k nobody).size) × ((get_or ms k nobody).size ≤ 256)
+sized_at [] k e h = absurd (omega arith)
+sized_at (m ∷ ms) zero e h = grind (arith, nat_tests)
+sized_at (m ∷ ms) (suc k) e h = sized_at ms k (grind (arith, nat_tests)) (omega arith)
 
 -- each place has an owner
 pub length_owners : (a : ℕ) (ms : List Codes) → length (owner_list a ms) ≡ places_of ms
