@@ -1,3 +1,4 @@
 pub mod Sites
 pub mod Answers
+pub mod Plannings
 pub mod Texts

@@ -6,5 +6,6 @@ pub mod command;
 pub mod denial;
 pub mod exchange;
 pub mod obey;
+pub mod planning;
 mod stage;
 mod text;

@@ -7,6 +7,7 @@ use crate::answer::Answer;
 use crate::command::Command;
 use crate::denial::Denial;
 use crate::exchange::Exchange;
+use crate::planning::{Planning, hunted};
 use crate::stage::Stage;
 use bearer::host::BearerHost;
 use choice::host::{Host, HostKind};
@@ -14,7 +15,6 @@ use choice::order::Order;
 use hunt::side::Side;
 use node::lent::{ENTRIES, Lent};
 use node::node::Node;
-use plan::draft::Draft;
 use plan::limits::PLACES;
 use plan::plan::Plan;
 use signal::code::Code;
@@ -27,7 +27,7 @@ impl Exchange {
         ensures { site_of result ≡ fresh_site }
     {
         Exchange {
-            stage: Stage::Drafting(Draft::new()),
+            stage: Stage::Drafting(Planning::new()),
             table: [Code::blank(); PLACES],
             lent: Lent {
                 codes: PLACES,
@@ -42,7 +42,7 @@ impl Exchange {
         ensures { result.now ≡ plan_of (stage_of self.now) }
     {
         match &self.stage {
-            Stage::Drafting(draft) => draft.plan(),
+            Stage::Drafting(planning) => planning.plan(),
             Stage::Open(node) => node.plan(),
         }
     }
@@ -72,38 +72,21 @@ impl Exchange {
     fn association(&mut self, size: usize, side: Side) -> Result<Answer, Denial>
         ensures { Obeyed (Command.Association size side) (site_of self.old) (site_of self.new) result }
     {
-        let draft = self.stage.drafting()?;
-        draft.fits(size)?;
-        let before = draft.plan().places();
-        let association = draft.plan().associations() + 1;
-        *draft = mem::replace(draft, Draft::new()).add(size, side);
-        Ok(Answer::Drafted {
-            association,
-            first: before + 1,
-            last: before + size as u16,
-        })
+        Ok(self.stage.drafting()?.association(size, side)?)
     }
 
     // Shows the hunt over an association.
     fn hunt(&self, order: Order, association: u16) -> Result<Answer, Denial>
         ensures { result ≡ answer_of (site_of self.now) (Command.Hunt order association) }
     {
-        let found = self
-            .plan()
-            .association(association)
-            .ok_or(Refusal::Association)?;
-        Ok(Answer::Hunt {
-            association,
-            order,
-            codes: found.codes,
-        })
+        Ok(hunted(self.plan(), order, association)?)
     }
 
     // Opens the node over what was drafted.
     fn open(&mut self, order: Order, host: HostKind, bearers: usize) -> Result<Answer, Denial>
         ensures { Obeyed (Command.Open order host bearers) (site_of self.old) (site_of self.new) result }
     {
-        let draft = mem::replace(self.stage.drafting()?, Draft::new());
+        let draft = mem::replace(self.stage.drafting()?, Planning::new()).into_draft();
         let associations = draft.plan().associations();
         let places = draft.plan().places();
         let host = Host::new(host, bearers);
