@@ -1,18 +1,21 @@
 // A script answered line by line, from a file or from standard input.
-ghost use Rattle.std.specs.Prelude.{List, IfOk};
+ghost use Rattle.std.specs.Prelude.{◌≡◌, List, IfOk, OnOk, [], ◌∷◌, ◌++◌};
+ghost use Rattle.std.specs.Io.KnownBytes.{Appends};
 ghost use Rattle.reading.specs.Lines.{Line};
+ghost use Rattle.script.specs.Texts.{tally_text};
 ghost use Rattle.program.specs.Served.{Answered};
 
 use anyhow::anyhow;
+use arrayvec::ArrayString;
 use reading::known::Known;
 use script::runner::Runner;
 use script::tally::Tally;
 use std::alloc::Global;
-use std::env;
 use std::fmt::Write as _;
 use std::fs::File;
 use std::io::{BufRead, BufReader, Read, Write};
 use std::rt::{Env, Files};
+use std::{env, fmt};
 
 // Answers the script of the file that the argument names, or of standard input, into `out`.
 // Tells what it came to.
@@ -66,8 +69,27 @@ fn answer<S: Read + Drop, W: Write>(
             text.clear();
         }
     }
-    let tally = runner.tally();
-    writeln!(text, "{tally}")?;
     out.write_all(text.as_bytes())?;
+    let tally = runner.tally();
+    write_last_line(tally, out)?;
     Ok(tally)
+}
+
+// Writes the last line at once.
+fn write_last_line<W: Write>(tally: Tally, out: &mut W) -> anyhow::Result<()>
+    ensures { OnOk result (Appends (W.contents out.old) (W.contents out.new) (tally_text tally ++ 10 ∷ [])) }
+{
+    let line = last_line(tally)?;
+    out.write_all(line.as_str().as_bytes())?;
+    Ok(())
+}
+
+// The last line, for which no memory from the heap is needed: the longest has 124 bytes.
+#[tactic(auto, using(crate::proofs::Written::holds_pieces))]
+fn last_line(tally: Tally) -> Result<ArrayString<124>, fmt::Error>
+    ensures { IfOk result (λ line. line.bytes ≡ tally_text tally ++ 10 ∷ []) }
+{
+    let mut line = ArrayString::new();
+    writeln!(line, "{tally}")?;
+    Ok(line)
 }

@@ -4,7 +4,7 @@ ghost use Rattle.hunt.specs.declared.codes.Codes.{Codes};
 ghost use Rattle.exchange.specs.Sites.{drafting};
 ghost use Rattle.reading.specs.Lines.{Line, knows_line};
 ghost use Rattle.exchange.specs.Answers.{answer_of};
-ghost use Rattle.script.specs.Plans.{Plans};
+ghost use Rattle.script.specs.Plans.{Plans, Carried};
 ghost use Rattle.script.specs.Texts.{error_line, told_line, line_text, Transcribed};
 ghost use Rattle.script.specs.Tallies.{standing, fresh, obeyed, faulted, after, tally_of};
 
@@ -79,6 +79,7 @@ impl Runner {
         ensures known { IfOk result (λ l. knows_line known l ≡ true) }
         ensures stands { IfOk result (λ l. standing self.new ≡ after l (standing self.old)) }
         ensures writes { IfOk result (λ l. string_bytes out.new ≡ string_bytes out.old ++ line_text l (standing self.old)) }
+        ensures carried { Carried known (standing self.old) (standing self.new) }
         ensures plans { (ms : List Codes) → known ≡ Known.Planning → (standing self.old).site.stage ≡ drafting ms → IfOk result (λ l. Plans l (standing self.old) (standing self.new) ms) }
     {
         self.lines = self.lines.saturating_add(1);

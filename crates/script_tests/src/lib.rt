@@ -4,7 +4,10 @@
 #[cfg(test)]
 mod tests {
     use reading::known::Known;
+    use script::planner::Planner;
     use script::runner::run;
+    use script::tally::Tally;
+    use std::fmt::Write;
     use std::process::Abort;
     use std::test::Fail;
 
@@ -150,5 +153,37 @@ mod tests {
              total associations 1 codes 2 answered 1 refused 0 errors 2\n",
             false,
         )
+    }
+
+    #[test]
+    fn a_planner_knows_no_other_command(rt: HostRuntime) -> Result<(), Fail> {
+        let mut planner = Planner::new();
+        let mut text = String::new(rt.alloc());
+        let _ = planner.line(b"association 2 even", &mut text)?;
+        let _ = planner.line(b"open straight re-use 1", &mut text)?;
+        let tally = planner.tally();
+        writeln!(text, "{tally}")?;
+        assert_eq!(rt;
+            text.as_str(),
+            "association 1 places 1-2\n\
+             error line 2: there is no command open\n\
+             total associations 1 codes 2 answered 1 refused 0 errors 1\n"
+        );
+        Ok(())
+    }
+
+    #[test]
+    fn the_longest_total(rt: HostRuntime) -> Result<(), Fail> {
+        let tally = Tally {
+            associations: 65535,
+            codes: 65535,
+            answered: u64::MAX,
+            refused: u64::MAX,
+            errors: u64::MAX,
+        };
+        let mut text = String::new(rt.alloc());
+        writeln!(text, "{tally}")?;
+        assert_eq!(rt; text.as_str().len(), 124);
+        Ok(())
     }
 }

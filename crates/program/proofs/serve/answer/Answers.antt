@@ -1,6 +1,6 @@
 use Rattle.std.proofs.Common.{◌≡◌, ℕ, List, [], ◌∷◌, ◌++◌, sym, ap, refl, ◌∙◌, append_assoc, append-nil, string_bytes}
 use Rattle.script.specs.Tallies.{standing, fresh, after_all, tally_of}
-use Rattle.script.specs.Texts.{lines_text, tally_text, transcript}
+use Rattle.script.specs.Texts.{lines_text, tally_text}
 use Rattle.script.proofs.Lines.{knows_more, stands_more, writes_more}
 use Rattle.program.proofs.Written.{writes_nothing, writes_both}
 use Rattle.program.proofs.serve.answer.Goals as goal
@@ -37,8 +37,6 @@ returns g c =
     let before = c.loop.invariant in
     let tally : c.tally-tally.result ≡ tally_of (after_all before.0 fresh) = c.tally-tally.ensures ∙ ap tally_of before.2 in
     let total = tally_text (tally_of (after_all before.0 fresh)) ++ 10 ∷ [] in
-    let last : string_bytes c.writeln.new.self ≡ string_bytes c.loop.text ++ total = rw tally at c.in_ok-writeln.ensures.bytes in
-    let whole : before.3 ++ string_bytes c.writeln.new.self ≡ transcript before.0 =
-    ap (λ (t : List ℕ). before.3 ++ t) last ∙ sym (append_assoc before.3 _ total) ∙ ap (λ (t : List ℕ). t ++ total) before.5 in
-    let wrote = writes_both _ _ _ before.3 _ before.4 (rw c.as_bytes-2.ensures.value at c.in_ok-write_all-2.ensures.bytes) in
-    (before.0, record { known_all = before.1; total = tally; wrote = rw whole at wrote })
+    let text = writes_both _ _ _ before.3 _ before.4 (rw c.as_bytes-2.ensures.value at c.in_ok-write_all-2.ensures.bytes) in
+    let wrote = writes_both _ _ _ _ total (rw before.5 at text) (rw tally at c.in_ok-write_last_line.ensures) in
+    (before.0, record { known_all = before.1; total = tally; wrote = wrote })
