@@ -1,8 +1,7 @@
 -- Lists with an entry for each place.
-use Rattle.std.proofs.Common.{◌≡◌, ℕ, ◌+◌, ◌-◌, ◌≤◌, cond, not, List, length, replicate, arith}
+use Rattle.std.proofs.Common.{◌≡◌, ℕ, zero, suc, ◌+◌, ◌-◌, cond, not, List, length, get_or, replicate, refl, arith}
 use Rattle.std.proofs.Math.Path.{fun_ext}
 use Rattle.std.proofs.lemmas.Bool.Decides.{nat_tests}
-use Rattle.std.proofs.lemmas.List.{get_or-replicate}
 use Rattle.std.proofs.lemmas.List.Sums.{sum_by-set}
 use Rattle.bearer.specs.ByPlace.{at_place, everywhere, with_entry}
 use Rattle.bearer.specs.Kit.{is_none, is_place}
@@ -10,11 +9,17 @@ use Rattle.bearer.specs.PerCall.{used}
 use Rattle.bearer.specs.declared.phase.Phase.{Phase}
 use Rattle.bearer.specs.declared.phase.Phase.TheVariants.{Nothing}
 
--- a list that is x all through
-pub all_same : {A : Type 0} (n : ℕ) (x : A) → 4096 ≤ n → at_place (replicate n x) x ≡ everywhere x
-all_same n x long = fun_ext (λ p. grind (arith, nat_tests, get_or-replicate))
+-- a list that is x all through, read with x past its end
+pub same_anywhere : {A : Type 0} (n i : ℕ) (x : A) → get_or (replicate n x) i x ≡ x
+same_anywhere zero i x = refl
+same_anywhere (suc n) zero x = refl
+same_anywhere (suc n) (suc i) x = same_anywhere n i x
 
-abbrev weight : Phase → ℕ
+-- such a list, however long, has x at each place, where x is also what a place outside has
+pub all_same : {A : Type 0} (n : ℕ) (x : A) → at_place (replicate n x) x ≡ everywhere x
+all_same n x = fun_ext (λ p. let e = same_anywhere n (p - 1) x in grind (arith, nat_tests))
+
+abbrev pub weight : Phase → ℕ
 weight x = cond (not (is_none x)) 1 0
 
 -- another phase for one place
