@@ -84,7 +84,7 @@ fn write_last_line<W: Write>(tally: Tally, out: &mut W) -> anyhow::Result<()>
     Ok(())
 }
 
-// The last line, for which no memory from the heap is needed: the longest has 124 bytes.
+// The last line, for which no memory from the heap is needed. The longest has 124 bytes; that is tested.
 #[tactic(auto, using(crate::proofs::Written::holds_pieces))]
 fn last_line(tally: Tally) -> Result<ArrayString<124>, fmt::Error>
     ensures { IfOk result (λ line. line.bytes ≡ tally_text tally ++ 10 ∷ []) }
